@@ -1,0 +1,3 @@
+pub mod Seconds
+pub mod Core
+pub mod View
