@@ -1,7 +1,7 @@
 -- The clock core: what each call answers and leaves, over any register map.
 use mathlib.Core.Bool.{Bool, true, false, cond, _||_}
 use mathlib.Core.List.{List, _++_}
-use Prim.Native.Nat.{ℕ, zero, suc, _+_, _-_}
+use Prim.Native.Nat.{ℕ, zero, suc, _+_, _-_, _%_}
 use lib.Dec.{eqb, leb, ltb}
 use lib.ListN.{length, drop, getD, replicate}
 use Rattle.std.specs.Options.{mapped}
@@ -13,7 +13,7 @@ use Rattle.refusals.specs.declared.Refusal.{Refusal}
 use Rattle.refusals.specs.declared.Refusal.the-variants.{NoSuchMoment, NoSuchSetting, TooManyPulses, ShortBuffer, NoSuchCell, ShowsNone, AlreadyHeld, NotHeld}
 use Rattle.register_map.specs.declared.hour_mode.HourMode.{HourMode}
 use Rattle.register_map.specs.declared.hour_mode.HourMode.the-variants.{Twelve, TwentyFour}
-use Rattle.register_map.specs.Chart.{Chart, Shown, MapState, map-state, shown-by, second-of, second-after, advanced, put-byte}
+use Rattle.register_map.specs.Chart.{Chart, Shown, MapState, map-state, shown-by, second-of, second-after, advanced, put-byte, set-mode}
 use Rattle.clock_core.specs.Seconds.{second-length}
 
 -- A core: its map, its trim, where it stands in the running second and how long that is,
@@ -154,3 +154,15 @@ read-cell c s cell = cond (ltb cell (c .count)) (Ok (getD (s .map .cells) cell 0
 
 abbrev pub write-cell : Chart → CoreState → ℕ → ℕ → Accepted × CoreState
 write-cell c s cell byte = cond (ltb cell (c .count)) (Ok tt, with-map s (put-byte c (s .map) cell byte)) (Err NoSuchCell, s)
+
+-- What a part does to its core beyond these calls: its trim, its hour mode, and a second begun anew.
+abbrev pub set-trim : CoreState → ℕ → CoreState
+set-trim s byte =
+    record { map = s .map; trim = byte % 128; position = s .position; second = s .second; held = s .held; waits = s .waits }
+
+abbrev pub set-core-mode : CoreState → HourMode → CoreState
+set-core-mode s to = with-map s (set-mode (s .map) to)
+
+-- a waiting boundary is dropped
+abbrev pub restart-second : Chart → CoreState → CoreState
+restart-second c s = begin-second c (waiting s false)

@@ -5,7 +5,7 @@ ghost use Prim.Native.Nat.{ℕ, _+_, _-_, _%_, _<_, _≤_};
 ghost use lib.ListN.{length, getD};
 ghost use Rattle.std.specs.Options.{mapped};
 ghost use Rattle.register_map.specs.Chart.{map-state, shown-by};
-ghost use Rattle.clock_core.specs.Core.{begin-second, cross-boundary, run-to-boundary, give-pulses, counted-value, hold-core, release-core, read-cell, write-cell, make-core, idle-core, load-core, look-at, registers, mode-of};
+ghost use Rattle.clock_core.specs.Core.{begin-second, cross-boundary, run-to-boundary, give-pulses, counted-value, hold-core, release-core, read-cell, write-cell, make-core, idle-core, load-core, look-at, registers, mode-of, set-trim, set-core-mode, restart-second};
 ghost use Rattle.clock_core.specs.View.{meant, meant-made};
 use crate::core::ClockCore;
 use crate::core::MakeRefused;
@@ -220,5 +220,26 @@ impl<M: RegisterMap> ClockCore<M> {
         }
         self.map.put(cell, byte);
         Ok(())
+    }
+
+    // Seven bits of a byte; the running second keeps its length.
+    pub fn set_trim(&mut self, byte: u8)
+        ensures { λ _. ⌜ meant M·RegisterMap (now (self .exit)) ≡ set-trim (meant M·RegisterMap (now (self .entry))) byte ⌝ }
+    {
+        self.trim = byte % 128;
+    }
+
+    pub fn set_hour_mode(&mut self, to: HourMode)
+        ensures { λ _. ⌜ meant M·RegisterMap (now (self .exit)) ≡ set-core-mode (meant M·RegisterMap (now (self .entry))) to ⌝ }
+    {
+        self.map.set_hour_mode(to);
+    }
+
+    // Drops a waiting boundary and begins a second.
+    pub fn restart_second(&mut self)
+        ensures { λ _. ⌜ meant M·RegisterMap (now (self .exit)) ≡ restart-second (M·RegisterMap .chart) (meant M·RegisterMap (now (self .entry))) ⌝ }
+    {
+        self.boundary_waits = false;
+        self.begin_second();
     }
 }

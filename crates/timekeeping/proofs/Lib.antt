@@ -1,0 +1,6 @@
+pub mod Drift
+pub mod Keeping
+pub mod Logs
+pub mod Moments
+pub mod Stretches
+pub mod Theorem
