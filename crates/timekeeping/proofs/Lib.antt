@@ -4,3 +4,4 @@ pub mod Logs
 pub mod Moments
 pub mod Stretches
 pub mod Theorem
+pub mod Outcomes

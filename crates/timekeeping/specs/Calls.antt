@@ -1,6 +1,6 @@
 -- What each call of a list answers and leaves, and the log of a list: its calls with their answers.
 use mathlib.Core.Bool.{cond}
-use mathlib.Core.List.{List, [], _∷_}
+use mathlib.Core.List.{List, [], _∷_, _++_}
 use Prim.Native.Nat.{ℕ}
 use lib.Dec.{ltb}
 use Rattle.std.specs.declared.result.Result.{Result}
@@ -67,3 +67,12 @@ log-with c start log (call ∷ calls) = log-with c start (hear c start log call 
 -- the log of a list of calls
 abbrev pub log-of : Chart → CoreState → List CoreCall → Log
 log-of c start calls = log-with c start [] calls
+
+-- the answers of a log, in the order of the calls
+unfoldable pub answers-in : Log → List CoreAnswer
+answers-in [] = []
+answers-in (h ∷ log) = answers-in log ++ (h .answer ∷ [])
+
+-- What a list of calls answers, and the core after it.
+abbrev pub outcome : Chart → CoreState → List CoreCall → List CoreAnswer × CoreState
+outcome c start calls = (answers-in (log-of c start calls), state-after c start (log-of c start calls))
