@@ -1,7 +1,9 @@
 pub mod Drift
+pub mod Examples
 pub mod Keeping
 pub mod Logs
 pub mod Moments
+pub mod Outcomes
+pub mod ShortLogs
 pub mod Stretches
 pub mod Theorem
-pub mod Outcomes

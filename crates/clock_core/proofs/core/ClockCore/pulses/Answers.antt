@@ -11,4 +11,4 @@ loop-left-again g c =
 
 pub returns : need.returns
 returns g c =
-    pulses-given (g .M·RegisterMap .chart) _ _ _ _ (c .loop-left-test .left) (c .if-count-gt-MOST-PULSES .left) (c .loop-left .inv .1)
+    pulses-given (g .M·RegisterMap .chart) _ _ _ _ (c .loop-left-test .left) (omega arith) (c .loop-left .inv .1)
