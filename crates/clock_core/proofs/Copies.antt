@@ -1,7 +1,7 @@
 -- Registers copied one by one to the front of a buffer.
 use mathlib.Core.Path.{_≡_, _∙_, ap, ap₂, sym, refl}
 use mathlib.Core.Bool.{Bool, true, false, cond}
-use mathlib.Core.List.{List, [], _∷_, _++_, append-assoc}
+use mathlib.Core.List.{List, [], _∷_, _++_, append-assoc, append-nil}
 use Prim.Native.Nat.{ℕ, _+_, _-_, _<_, _≤_}
 use native.Mathlib.Omega.{arith}
 use lib.Dec.{ltb}
@@ -11,7 +11,7 @@ use borrow.Author.Tests.{ltb-true, ltb-false, le-ltb}
 use Rattle.std.specs.declared.result.Result.the-variants.{Ok, Err}
 use Rattle.refusals.specs.declared.Refusal.the-variants.{ShortBuffer}
 use Rattle.clock_core.specs.Core.{Accepted, copied-front}
-use Rattle.std.proofs.shelf.Lists.{take-more, drop-more, getD-append-left, getD-append-right, getD-replicate, getD-past}
+use Rattle.std.proofs.shelf.Lists.{take-more, drop-more, drop-all, getD-append-left, getD-append-right, getD-replicate, getD-past}
 
 -- one register more
 pub copy-more : (rs buffer : List ℕ) (i : ℕ) → i < length rs → i < length buffer → set (take i rs ++ drop i buffer) i (getD rs i 0) ≡ take (i + 1) rs ++ drop (i + 1) buffer
@@ -32,6 +32,13 @@ copy-done rs buffer now n e q whole long =
     let copied : now ≡ rs ++ drop 16 buffer = e ∙ ap (λ (k : ℕ). take k rs ++ drop k buffer) q ∙ ap (λ (t : List ℕ). t ++ drop 16 buffer) all in
     ap (λ (t : List ℕ). (Ok tt, t)) copied
     ∙ sym (ap (λ (b : Bool). cond {A = Accepted × List ℕ} b (Err ShortBuffer, buffer) (Ok tt, rs ++ drop 16 buffer)) (le-ltb _ _ long))
+
+-- all of them, into a row of sixteen
+pub copy-whole : (rs row now : List ℕ) (n : ℕ) → now ≡ take n rs ++ drop n row → n ≡ 16 → length rs ≡ 16 → length row ≡ 16 → now ≡ rs
+copy-whole rs row now n e q whole room =
+    let all : take 16 rs ≡ rs = take-all 16 rs (omega arith) in
+    let none : drop 16 row ≡ [] = drop-all 16 row (omega arith) in
+    e ∙ ap (λ (k : ℕ). take k rs ++ drop k row) q ∙ ap₂ (λ (t u : List ℕ). t ++ u) all none ∙ append-nil rs
 
 -- a list filled up with zeros
 pub filled-front : (cells : List ℕ) (k i : ℕ) → i < length cells → getD (cells ++ replicate k 0) i 0 ≡ getD cells i 0

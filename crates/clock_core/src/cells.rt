@@ -1,11 +1,24 @@
 // The cells of a core, read and written, and its sixteen registers.
 ghost use mathlib.Core.Path.{_≡_};
 ghost use lib.ListN.{getD};
-ghost use Rattle.clock_core.specs.Core.{read-cell, write-cell, look-at, registers};
+ghost use Rattle.clock_core.specs.Core.{read-cell, write-cell, look-at, registers, copied-front};
 ghost use Rattle.clock_core.specs.View.{meant};
 use crate::core::ClockCore;
 use refusals::Refusal;
 use register_map::map::RegisterMap;
+
+// Copies sixteen registers to the front of a buffer; the rest of it stays.
+pub fn copy_front(sixteen: &[u8; 16], buffer: &mut [u8]) -> Result<(), Refusal>
+    ensures { λ r. ⌜ (r, now (buffer .exit)) ≡ copied-front (now (sixteen .entry)) (now (buffer .entry)) ⌝ }
+{
+    if buffer.len() < 16 {
+        return Err(Refusal::ShortBuffer);
+    }
+    for i in 0..16 {
+        buffer[i] = sixteen[i];
+    }
+    Ok(())
+}
 
 impl<M: RegisterMap> ClockCore<M> {
     pub fn read(&self, cell: usize) -> Result<u8, Refusal>
@@ -32,13 +45,11 @@ impl<M: RegisterMap> ClockCore<M> {
     pub fn look(&self, buffer: &mut [u8]) -> Result<(), Refusal>
         ensures { λ r. ⌜ (r, now (buffer .exit)) ≡ look-at (meant M·RegisterMap (now (self .entry))) (now (buffer .entry)) ⌝ }
     {
-        if buffer.len() < 16 {
-            return Err(Refusal::ShortBuffer);
-        }
+        let mut sixteen = [0u8; 16];
         for i in 0..16 {
-            buffer[i] = self.register(i);
+            sixteen[i] = self.register(i);
         }
-        Ok(())
+        copy_front(&sixteen, buffer)
     }
 
     // Register 0 to 15: a cell, or 0 beyond the cells.

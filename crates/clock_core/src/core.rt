@@ -4,6 +4,7 @@ ghost use mathlib.Core.Path.{_≡_};
 ghost use Prim.Native.Nat.{_<_, _≤_};
 use refusals::Refusal;
 
+#[derive(Drop)]
 pub struct ClockCore<M> {
     pub map: M,
     pub trim: u8,
@@ -19,6 +20,7 @@ pub struct ClockCore<M> {
 }
 
 // A refused make gives the map back.
+#[derive(Drop)]
 pub struct MakeRefused<M> {
     pub refusal: Refusal,
     pub map: M,

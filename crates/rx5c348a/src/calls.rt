@@ -1,10 +1,10 @@
 // Power-on, load, pulses and look.
 ghost use mathlib.Core.Path.{_≡_};
-ghost use lib.ListN.{getD};
 ghost use Rattle.rx5c348a.specs.Part.{seen, power-on, load-part, pulse-part, look-part, registers, control-byte, flag-byte};
 use crate::part::Rx5c348a;
 use byte_map::map::ByteMap;
 use byte_map::map::ByteMapRegisters;
+use clock_core::cells::copy_front;
 use clock_core::core::ClockCore;
 use refusals::Refusal;
 use register_map::hour_mode::HourMode;
@@ -45,25 +45,35 @@ impl Rx5c348a {
     pub fn look(&self, buffer: &mut [u8]) -> Result<(), Refusal>
         ensures { λ r. ⌜ (r, now (buffer .exit)) ≡ look-part (seen (now (self .entry))) (now (buffer .entry)) ⌝ }
     {
-        if buffer.len() < 16 {
-            return Err(Refusal::ShortBuffer);
-        }
-        for i in 0..16 {
-            buffer[i] = self.register(i);
-        }
-        Ok(())
+        copy_front(&self.registers(), buffer)
     }
 
-    fn register(&self, address: usize) -> u8
-        ensures { λ r. ⌜ r ≡ getD (registers (seen (now (self .entry)))) address 0 ⌝ }
+    // Registers 0 to 15.
+    fn registers(&self) -> [u8; 16]
+        ensures { λ r. ⌜ r ≡ registers (seen (now (self .entry))) ⌝ }
     {
-        match address {
-            0..=6 => self.core.map.read(address),
-            7 => self.core.trim,
-            14 => self.control(),
-            15 => self.flags(),
-            _ => 0,
-        }
+        let control = self.control();
+        let flags = self.flags();
+        let [second, minute, hour, weekday, day, month, year] = self.core.map.cells;
+        let trim = self.core.trim;
+        [
+            second,
+            minute,
+            hour,
+            weekday,
+            day,
+            month,
+            year,
+            trim,
+            0,
+            0,
+            0,
+            0,
+            0,
+            0,
+            control,
+            flags,
+        ]
     }
 
     // Register Eh.

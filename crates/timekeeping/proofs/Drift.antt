@@ -12,7 +12,7 @@ use borrow.Author.Tests.{ltb-true, ltb-false, eqb-true, eqb-false}
 use Rattle.std.proofs.shelf.Signed.{ints}
 use Rattle.std.proofs.shelf.Ways.{tells}
 use Rattle.clock_core.specs.Seconds.{trimmed-length, trim-pulses}
-use Rattle.timekeeping.specs.Law.{length-of-second, first-seconds, drift}
+use Rattle.timekeeping.specs.Seconds.{length-of-second, first-seconds, drift}
 
 -- how far the next multiple of twenty is
 abbrev ahead : ℕ → ℕ

@@ -1,6 +1,6 @@
 -- What every core keeps from one pulse to the next, and from one call to the next.
 use mathlib.Core.Path.{_≡_, _∙_, ap, ap₂, sym, refl, subst, subst₂}
-use mathlib.Core.Bool.{Bool, true, false, cond, not}
+use mathlib.Core.Bool.{Bool, true, false, cond}
 use Prim.Native.Nat.{ℕ, zero, suc, _+_, _*_, _-_, _%_, _<_, _≤_}
 use native.Mathlib.Omega.{arith}
 use lib.Dec.{eqb, ltb}
@@ -9,23 +9,16 @@ use borrow.Author.Tests.{ltb-true, ltb-false}
 use Rattle.std.specs.Options.{mapped}
 use Rattle.std.specs.declared.option.Option.{Option}
 use Rattle.std.specs.declared.option.Option.the-variants.{Some, None}
-use Rattle.std.specs.declared.result.Result.the-variants.{Ok, Err}
-use Rattle.refusals.specs.declared.Refusal.the-variants.{TooManyPulses, ShortBuffer, NoSuchCell, AlreadyHeld, NotHeld}
-use lib.ListN.{getD}
+use lib.ListN.{length, getD}
 use Rattle.std.proofs.shelf.Signed.{ints}
 use Rattle.std.proofs.shelf.Ways.{tells}
 use Rattle.register_map.specs.declared.hour_mode.HourMode.{HourMode}
-use Rattle.register_map.specs.declared.hour_mode.HourMode.the-variants.{Twelve, TwentyFour}
-use Rattle.register_map.specs.Chart.{Chart, Shown, Showable, Lawful, MapState, map-state, shown-by, second-of, second-after, advanced, advanced-from, put-byte, set-mode}
-use Rattle.clock_core.specs.Core.{CoreState, Accepted as Acceptance, with-map, waiting, at-position, begin-second, cross-boundary, one-pulse, many-pulses, counted-value, released, registers, set-core-mode}
+use Rattle.register_map.specs.Chart.{Chart, Shown, Showable, Lawful, MapState, map-state, shown-by, second-of, second-after, advanced, advanced-from}
+use Rattle.clock_core.specs.Core.{CoreState, with-map, waiting, at-position, begin-second, cross-boundary, one-pulse, many-pulses, counted-value, released as released-core}
 use Rattle.clock_core.specs.Seconds.{second-length, trimmed-length, trim-pulses}
 use Rattle.clock_core.proofs.Runs.{pulse-within, pulse-crosses}
-use Rattle.timekeeping.specs.declared.call.CoreCall.{CoreCall}
-use Rattle.timekeeping.specs.declared.call.CoreCall.the-variants.{Pulses, Hold, Release, Read, Write, Look, SetTrim, SetHourMode, RestartSecond}
-use Rattle.timekeeping.specs.declared.call.CoreAnswer.{CoreAnswer}
-use Rattle.timekeeping.specs.declared.call.CoreAnswer.the-variants.{Accepted, Byte, Registers, Refused}
-use Rattle.timekeeping.specs.Calls.{Heard, accepted-with, byte-read, do-call}
-use Rattle.timekeeping.specs.Law.{seconds-past, length-of-second, first-seconds, is-accepted, pulses-by, holds, releases, same-mode, writes}
+use Rattle.timekeeping.specs.Logs.{Sight, Took, Held, Released, Wrote, Gave, Nothing, pulses-by, held-by, is-write}
+use Rattle.timekeeping.specs.Seconds.{seconds-past, length-of-second, first-seconds}
 use Rattle.timekeeping.proofs.Moments.{showable-past, length-past}
 
 -- a core by its parts
@@ -70,11 +63,27 @@ unfolding many-pulses
 pulses-held c zero s = refl
 pulses-held c (suc n) s = pulses-held c n (one-pulse c s) ∙ pulse-held c s
 
-pub modes-agree : (m to : HourMode) → not (same-mode m to) ≡ false → m ≡ to
-modes-agree Twelve Twelve e = refl
-modes-agree Twelve TwentyFour e = cc
-modes-agree TwentyFour Twelve e = cc
-modes-agree TwentyFour TwentyFour e = refl
+-- a core, held
+abbrev pub held-core : CoreState → CoreState
+held-core s = core (s .map) (s .trim) (s .position) (s .second) true (s .waits)
+
+-- What a sight says of the core before and after it.
+abbrev pub Acts : Chart → HourMode → Sight → CoreState → CoreState → Type 0
+Acts c mode (Took n) s t = t ≡ many-pulses c n s
+Acts c mode Held s t = (s .held ≡ false) × (t ≡ held-core s)
+Acts c mode Released s t = (s .held ≡ true) × (t ≡ released-core c s)
+Acts c mode Wrote s t = Unit {0}
+Acts c mode (Gave bytes) s t = (t ≡ s) × (length (s .map .cells) ≡ c .count → (cell byte : ℕ) → bytes cell ≡ Some byte → byte ≡ getD (s .map .cells) cell 0)
+Acts c mode Nothing s t = s .map .mode ≡ mode → t ≡ s
+
+-- the pulses since a hold, one sight more
+abbrev pub since-by : Sight → ℕ → ℕ
+since-by (Took n) since = n + since
+since-by Held since = 0
+since-by Released since = 0 + since
+since-by Wrote since = 0 + since
+since-by (Gave _) since = 0 + since
+since-by Nothing since = 0 + since
 
 module _ (c : Chart) (law : Lawful c) (trim : ℕ) (in-range : trim < 128) (mode : HourMode) (p : Shown) (ok : Showable c p) where
   -- the map k seconds past the start
@@ -187,7 +196,7 @@ module _ (c : Chart) (law : Lawful c) (trim : ℕ) (in-range : trim < 128) (mode
       subst₂ (λ (x y : ℕ). Keeps c trim mode p x y (many-pulses c m (one-pulse c s))) a b rest
 
   -- release applies the waiting boundary
-  keeps-release : (at long since total : ℕ) (held waits : Bool) (m : MapState) (t : ℕ) → Keeps c trim mode p total since (core m t at long held waits) → Keeps c trim mode p total since (released c (core m t at long held waits))
+  keeps-release : (at long since total : ℕ) (held waits : Bool) (m : MapState) (t : ℕ) → Keeps c trim mode p total since (core m t at long held waits) → Keeps c trim mode p total since (released-core c (core m t at long held waits))
   keeps-release at long since total held false m t kept =
       record {
         n = kept .n;
@@ -215,101 +224,43 @@ module _ (c : Chart) (law : Lawful c) (trim : ℕ) (in-range : trim < 128) (mode
         early = λ f. let e : _≡_ {A = ℕ} 0 1 = cc in absurd (omega arith);
       }
 
-  -- what follows a call: the core keeps on, and is held or released as was heard
-  pub record Follows (h : Heard) (total since : ℕ) (was-held : Bool) (after : CoreState) : Type 0 where
-    pub keeps : Keeps c trim mode p (pulses-by (h .call) (is-accepted (h .answer)) + total) (cond (holds h) 0 (pulses-by (h .call) (is-accepted (h .answer)) + since)) after
-    pub held-heard : after .held ≡ cond (holds h) true (cond (releases h) false was-held)
-
-  -- a call that takes no pulses and leaves the core as it was
-  unchanged : (h : Heard) (total since : ℕ) (s : CoreState) → Keeps c trim mode p total since s → pulses-by (h .call) (is-accepted (h .answer)) ≡ 0 → holds h ≡ false → releases h ≡ false → Follows h total since (s .held) s
-  unchanged h total since s kept none not-hold not-release =
-      let taken : ℕ = pulses-by (h .call) (is-accepted (h .answer)) in
-      let a : total ≡ taken + total = omega (arith, none) in
-      let b : since ≡ taken + since = omega (arith, none) in
-      record {
-        keeps = subst₂ (λ (x y : ℕ). Keeps c trim mode p x y s) a (b ∙ sym (ap (λ (z : Bool). cond z 0 (taken + since)) not-hold)) kept;
-        held-heard = sym (ap (λ (z : Bool). cond z true (cond (releases h) false (s .held))) not-hold ∙ ap (λ (z : Bool). cond z false (s .held)) not-release);
-      }
-
-  -- the call is heard with its answer
-  abbrev heard-of : CoreState → CoreCall → Heard
-  heard-of s call = record { call = call; answer = do-call c s call .0 }
-
-  -- the pulses heard since a hold, once the call has followed
-  abbrev since-then : Heard → ℕ → ℕ
-  since-then h since = cond (holds h) 0 (pulses-by (h .call) (is-accepted (h .answer)) + since)
-
-  abbrev held-then : Heard → Bool → Bool
-  held-then h was-held = cond (holds h) true (cond (releases h) false was-held)
-
-  -- pulses, refused or taken
-  abbrev pulses-answered : CoreState → ℕ → Bool → CoreAnswer × CoreState
-  pulses-answered s n refused = accepted-with (cond {A = Acceptance × CoreState} refused (Err TooManyPulses, s) (Ok tt, many-pulses c n s))
-
-  follow-pulses : (n : ℕ) (s : CoreState) (total since : ℕ) (refused : Bool) → Keeps c trim mode p total since s → (held-then (record { call = Pulses n; answer = pulses-answered s n refused .0 }) (s .held) ≡ true → since-then (record { call = Pulses n; answer = pulses-answered s n refused .0 }) since ≤ 32644) → Follows (record { call = Pulses n; answer = pulses-answered s n refused .0 }) total since (s .held) (pulses-answered s n refused .1)
-  follow-pulses n s total since true kept short = unchanged (record { call = Pulses n; answer = Refused TooManyPulses }) total since s kept refl refl refl
-  follow-pulses n s total since false kept short =
-      record { keeps = keeps-pulses n since total s kept (λ h. omega (arith, short h)); held-heard = pulses-held c n s }
-
-  follow-hold : (at long since total : ℕ) (held waits : Bool) (m : MapState) (t : ℕ) → Keeps c trim mode p total since (core m t at long held waits) → Follows (heard-of (core m t at long held waits) Hold) total since held (do-call c (core m t at long held waits) Hold .1)
-  follow-hold at long since total true waits m t kept = unchanged (record { call = Hold; answer = Refused AlreadyHeld }) total since (core m t at long true waits) kept refl refl refl
-  follow-hold at long since total false waits m t kept =
-      record {
-        keeps = record {
-          n = kept .n;
-          k = kept .k;
-          trim-kept = kept .trim-kept;
-          coded = kept .coded;
-          counted = omega (arith, kept .counted);
-          within = kept .within;
-          length-kept = kept .length-kept;
-          applied = kept .applied;
-          clear = λ f. let e : _≡_ {A = ℕ} 0 1 = cc in absurd (omega arith);
-          early = λ f. let g : waits ≡ false = kept .clear refl in let e : _≡_ {A = ℕ} 0 1 = cc in absurd (omega arith);
-        };
-        held-heard = refl;
-      }
-
-  follow-release : (at long since total : ℕ) (held waits : Bool) (m : MapState) (t : ℕ) → Keeps c trim mode p total since (core m t at long held waits) → Follows (heard-of (core m t at long held waits) Release) total since held (do-call c (core m t at long held waits) Release .1)
-  follow-release at long since total false waits m t kept = unchanged (record { call = Release; answer = Refused NotHeld }) total since (core m t at long false waits) kept refl refl refl
-  follow-release at long since total true waits m t kept =
+  same-counts : (total since : ℕ) (s : CoreState) → Keeps c trim mode p total since s → Keeps c trim mode p (0 + total) (0 + since) s
+  same-counts total since s kept =
       let a : total ≡ 0 + total = omega arith in
       let b : since ≡ 0 + since = omega arith in
+      subst₂ (λ (x y : ℕ). Keeps c trim mode p x y s) a b kept
+
+  keeps-hold : (total since : ℕ) (s : CoreState) → Keeps c trim mode p total since s → s .held ≡ false → Keeps c trim mode p (0 + total) 0 (held-core s)
+  keeps-hold total since s kept free =
       record {
-        keeps = subst₂ (λ (x y : ℕ). Keeps c trim mode p x y (released c (core m t at long true waits))) a b (keeps-release at long since total true waits m t kept);
-        held-heard = refl;
+        n = kept .n;
+        k = kept .k;
+        trim-kept = kept .trim-kept;
+        coded = kept .coded;
+        counted = omega (arith, kept .counted);
+        within = kept .within;
+        length-kept = kept .length-kept;
+        applied = kept .applied;
+        clear = λ f. let e : _≡_ {A = ℕ} 0 1 = cc in absurd (omega arith);
+        early = λ f. let g : s .waits ≡ false = kept .clear free in let e : _≡_ {A = ℕ} 0 1 = cc in absurd (omega arith);
       }
 
-  follow-read : (cell total since : ℕ) (s : CoreState) (there : Bool) → Keeps c trim mode p total since s → Follows (record { call = Read cell; answer = byte-read (cond there (Ok (getD (s .map .cells) cell 0)) (Err NoSuchCell)) }) total since (s .held) s
-  follow-read cell total since s true kept = unchanged (record { call = Read cell; answer = Byte (getD (s .map .cells) cell 0) }) total since s kept refl refl refl
-  follow-read cell total since s false kept = unchanged (record { call = Read cell; answer = Refused NoSuchCell }) total since s kept refl refl refl
-
-  follow-look : (room total since : ℕ) (s : CoreState) (short : Bool) → Keeps c trim mode p total since s → Follows (record { call = Look room; answer = cond short (Refused ShortBuffer) (Registers (registers s)) }) total since (s .held) s
-  follow-look room total since s true kept = unchanged (record { call = Look room; answer = Refused ShortBuffer }) total since s kept refl refl refl
-  follow-look room total since s false kept = unchanged (record { call = Look room; answer = Registers (registers s) }) total since s kept refl refl refl
-
-  abbrev write-answered : CoreState → ℕ → ℕ → Bool → CoreAnswer × CoreState
-  write-answered s cell byte there = accepted-with (cond {A = Acceptance × CoreState} there (Ok tt, with-map s (put-byte c (s .map) cell byte)) (Err NoSuchCell, s))
-
-  follow-write : (cell byte total since : ℕ) (s : CoreState) (there : Bool) → Keeps c trim mode p total since s → cond (is-accepted (write-answered s cell byte there .0)) true false ≡ false → Follows (record { call = Write cell byte; answer = write-answered s cell byte there .0 }) total since (s .held) (write-answered s cell byte there .1)
-  follow-write cell byte total since s true kept f = let e : _≡_ {A = ℕ} 0 1 = cc in absurd (omega arith)
-  follow-write cell byte total since s false kept f = unchanged (record { call = Write cell byte; answer = Refused NoSuchCell }) total since s kept refl refl refl
-
-  follow-mode : (to : HourMode) (total since : ℕ) (s : CoreState) → Keeps c trim mode p total since s → mode ≡ to → Follows (record { call = SetHourMode to; answer = Accepted }) total since (s .held) (set-core-mode s to)
-  follow-mode to total since s kept e =
-      let stands : s .map .mode ≡ mode = ap (λ (m : MapState). m .mode) (kept .coded) in
-      let same : s ≡ set-core-mode s to = ap (λ (x : HourMode). with-map s (map-state (s .map .cells) x)) (stands ∙ e) in
-      subst (Follows (record { call = SetHourMode to; answer = Accepted }) total since (s .held)) same
-      (unchanged (record { call = SetHourMode to; answer = Accepted }) total since s kept refl refl refl)
-
-  -- one call more
-  pub follow : (call : CoreCall) (s : CoreState) (total since : ℕ) → Keeps c trim mode p total since s → cond (is-accepted (do-call c s call .0)) (writes mode call) false ≡ false → (held-then (heard-of s call) (s .held) ≡ true → since-then (heard-of s call) since ≤ 32644) → Follows (heard-of s call) total since (s .held) (do-call c s call .1)
-  follow (Pulses n) s total since kept quiet short = follow-pulses n s total since (ltb 1048576 n) kept short
-  follow Hold s total since kept quiet short = follow-hold (s .position) (s .second) since total (s .held) (s .waits) (s .map) (s .trim) kept
-  follow Release s total since kept quiet short = follow-release (s .position) (s .second) since total (s .held) (s .waits) (s .map) (s .trim) kept
-  follow (Read cell) s total since kept quiet short = follow-read cell total since s (ltb cell (c .count)) kept
-  follow (Write cell byte) s total since kept quiet short = follow-write cell byte total since s (ltb cell (c .count)) kept quiet
-  follow (Look room) s total since kept quiet short = follow-look room total since s (ltb room 16) kept
-  follow (SetTrim byte) s total since kept quiet short = let e : _≡_ {A = ℕ} 0 1 = cc in absurd (omega arith)
-  follow (SetHourMode to) s total since kept quiet short = follow-mode to total since s kept (modes-agree mode to quiet)
-  follow RestartSecond s total since kept quiet short = let e : _≡_ {A = ℕ} 0 1 = cc in absurd (omega arith)
+  -- one sight more
+  pub keeps-on : (x : Sight) (s t : CoreState) (total since : ℕ) → Keeps c trim mode p total since s → Acts c mode x s t → is-write x ≡ false → (held-by x (s .held) ≡ true → since-by x since ≤ 32644) → Keeps c trim mode p (pulses-by x + total) (since-by x since) t × (t .held ≡ held-by x (s .held))
+  keeps-on (Took n) s t total since kept acts quiet short =
+      let P : CoreState → Type 0 = λ u. Keeps c trim mode p (n + total) (n + since) u × (u .held ≡ s .held) in
+      subst P (sym acts) (keeps-pulses n since total s kept (λ h. omega (arith, short h)), pulses-held c n s)
+  keeps-on Held s t total since kept acts quiet short =
+      let P : CoreState → Type 0 = λ u. Keeps c trim mode p (0 + total) 0 u × (u .held ≡ true) in
+      subst P (sym (acts .1)) (keeps-hold total since s kept (acts .0), refl)
+  keeps-on Released s t total since kept acts quiet short =
+      let P : CoreState → Type 0 = λ u. Keeps c trim mode p (0 + total) (0 + since) u × (u .held ≡ false) in
+      subst P (sym (acts .1)) (same-counts total since (released-core c s) (keeps-release (s .position) (s .second) since total (s .held) (s .waits) (s .map) (s .trim) kept), refl)
+  keeps-on Wrote s t total since kept acts quiet short = let e : _≡_ {A = ℕ} 0 1 = cc in absurd (omega arith)
+  keeps-on (Gave bytes) s t total since kept acts quiet short =
+      let P : CoreState → Type 0 = λ u. Keeps c trim mode p (0 + total) (0 + since) u × (u .held ≡ s .held) in
+      subst P (sym (acts .0)) (same-counts total since s kept, refl)
+  keeps-on Nothing s t total since kept acts quiet short =
+      let stands : s .map .mode ≡ mode = ap (λ (w : MapState). w .mode) (kept .coded) in
+      let P : CoreState → Type 0 = λ u. Keeps c trim mode p (0 + total) (0 + since) u × (u .held ≡ s .held) in
+      subst P (sym (acts stands)) (same-counts total since s kept, refl)

@@ -1,9 +1,6 @@
 pub mod Drift
-pub mod Examples
+pub mod Heard
 pub mod Keeping
-pub mod Logs
 pub mod Moments
-pub mod Outcomes
-pub mod ShortLogs
 pub mod Stretches
 pub mod Theorem

@@ -13,7 +13,7 @@ use Rattle.register_map.specs.Chart.{Chart, Shown, Showable, Lawful, second-of,
 use Rattle.clock_core.specs.Core.{counted-value}
 use Rattle.clock_core.specs.Seconds.{second-length, trimmed-length}
 use Rattle.clock_core.proofs.Values.{value-after}
-use Rattle.timekeeping.specs.Law.{seconds-past, length-of-second, first-seconds}
+use Rattle.timekeeping.specs.Seconds.{seconds-past, length-of-second, first-seconds}
 
 module _ (c : Chart) (law : Lawful c) where
   weekday-stays : (w : ℕ) (b : Bool) → w < 7 → cond b (weekday-after w) w < 7

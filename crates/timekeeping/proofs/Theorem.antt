@@ -2,7 +2,7 @@
 use mathlib.Core.Path.{_≡_, _∙_, ap, sym, refl, subst}
 use mathlib.Core.Bool.{Bool, true, false, cond}
 use mathlib.Core.List.{List, [], _∷_, _++_}
-use Prim.Native.Nat.{ℕ, zero, suc, _+_, _<_, _≤_}
+use Prim.Native.Nat.{ℕ, suc, _+_, _<_, _≤_}
 use native.Mathlib.Omega.{arith}
 use lib.ListN.{length, getD}
 use Rattle.std.specs.Options.{mapped}
@@ -13,25 +13,36 @@ use Rattle.register_map.specs.declared.hour_mode.HourMode.{HourMode}
 use Rattle.register_map.specs.Chart.{Chart, Lawful, Shown, Showable, MapState, map-state, shown-by, second-of}
 use Rattle.clock_core.specs.Core.{CoreState, new-core, counted-value}
 use Rattle.clock_core.specs.Seconds.{second-length}
-use Rattle.timekeeping.specs.declared.call.CoreAnswer.{CoreAnswer}
-use Rattle.timekeeping.specs.declared.call.CoreCall.{CoreCall}
-use Rattle.timekeeping.specs.Calls.{Heard, Log, do-call, state-after}
-use Rattle.timekeeping.specs.Law.{is-accepted, pulses-by, pulses-taken, holds, releases, is-held, writes, Stretch, Undisturbed, ShortStretches, seconds-past, first-seconds, length-of-second, WholeSeconds, NewlyMade, Timekeeping, calendar, is-hold, is-release, cell-given, KeepsTime}
+use Rattle.timekeeping.specs.Law.{NewlyMade, Timekeeping, calendar, GivenFrom, KeepsTime}
+use Rattle.timekeeping.specs.Logs.{Sight, Took, Held, Released, Wrote, Gave, Nothing, Machine, Heard, Log, state-after, log-with, log-of, sights-of, sights-after, pulses-by, pulses-taken, held-by, is-held, is-release, is-write, Stretch, Undisturbed, ShortStretches}
+use Rattle.timekeeping.specs.Seconds.{seconds-past, first-seconds, length-of-second, WholeSeconds}
 use Rattle.timekeeping.proofs.Drift.{drift-bounds}
-use Rattle.timekeeping.proofs.Keeping.{Keeps, follow, Follows, shown-coded, length-low}
+use Rattle.timekeeping.proofs.Heard.{Truly, truly-with, truly-earlier, all-earlier, short-earlier, since-hold, Open, open-stretch}
+use Rattle.timekeeping.proofs.Keeping.{Keeps, Acts, since-by, keeps-on, shown-coded, length-low}
 use Rattle.timekeeping.proofs.Moments.{length-past}
-use Rattle.timekeeping.proofs.Logs.{Truly, since-hold, Open, open-stretch, all-earlier, short-earlier, truly-earlier, truly-with}
-use Rattle.timekeeping.proofs.Stretches.{Stays, stays, held-first, given-is}
+use Rattle.timekeeping.proofs.Stretches.{Stays, stays, held-first}
 
-module _ (c : Chart) (law : Lawful c) (start : CoreState) (new : NewlyMade c start) where
+-- A machine is true to its sights: after every log truly heard, a call does to the core what the onlooker makes of it.
+abbrev pub TrueToSights : (m : Machine) → Chart → HourMode → m .State → Type 0
+TrueToSights m c mode start =
+    (h : Heard (m .Call) (m .Answer)) (log : Log m) → Truly m mode start (h ∷ log) → Acts c mode (m .sight mode log h) (m .core (state-after m start log)) (m .core (m .step (state-after m start log) (h .call) .1))
+
+module _ (m : Machine) (c : Chart) (law : Lawful c) (start : m .State) (new : NewlyMade c (m .core start)) (true-to : TrueToSights m c (new .map .mode) start) where
   -- what is shown at the start is coded there
   starts : (new .map ≡ map-state (c .code (new .map .mode) (new .shown)) (new .map .mode)) × Showable c (new .shown)
   starts =
       let coded = law .shown-is-coded (new .map .mode) (new .map .cells) (new .shown) (new .shows) in
       (ap (λ cells. map-state cells (new .map .mode)) (sym (coded .0)), coded .1)
 
-  abbrev Kept : Log → Type 0
-  Kept log = Keeps c (new .trim) (new .map .mode) (new .shown) (pulses-taken log) (since-hold log) (state-after c start log) × (state-after c start log .held ≡ is-held log)
+  abbrev sights : Log m → List Sight
+  sights log = sights-of m (new .map .mode) log
+
+  -- the core after a log
+  abbrev core-after : Log m → CoreState
+  core-after log = m .core (state-after m start log)
+
+  abbrev Kept : Log m → Type 0
+  Kept log = Keeps c (new .trim) (new .map .mode) (new .shown) (pulses-taken (sights log)) (since-hold m (new .map .mode) start (sights log)) (core-after log) × (core-after log .held ≡ is-held (sights log))
 
   kept-new : Keeps c (new .trim) (new .map .mode) (new .shown) 0 0 (new-core c (new .map) (new .trim))
   unfolding seconds-past first-seconds
@@ -53,124 +64,118 @@ module _ (c : Chart) (law : Lawful c) (start : CoreState) (new : NewlyMade c sta
       }
 
   kept-at-start : Kept []
-  unfolding pulses-taken since-hold state-after is-held
+  unfolding pulses-taken since-hold state-after sights-of is-held
   kept-at-start =
       let P : CoreState → Type 0 = λ s. Keeps c (new .trim) (new .map .mode) (new .shown) 0 0 s × (s .held ≡ false) in
       subst P (sym (new .made)) (kept-new, refl)
 
-  -- the same call with an answer
-  abbrev answered : Heard → CoreAnswer → Heard
-  answered h a = record { call = h .call; answer = a }
-
-  -- one call more, heard with its own answer
-  kept-next : (h : Heard) (log : Log) → Kept log → cond (is-accepted (do-call c (state-after c start log) (h .call) .0)) (writes (new .map .mode) (h .call)) false ≡ false → ShortStretches (answered h (do-call c (state-after c start log) (h .call) .0) ∷ log) → Kept (answered h (do-call c (state-after c start log) (h .call) .0) ∷ log)
-  unfolding pulses-taken since-hold state-after is-held
-  kept-next h log before quiet short =
-      let s : CoreState = state-after c start log in
-      let heard : Heard = answered h (do-call c s (h .call) .0) in
-      let within : cond (holds heard) true (cond (releases heard) false (s .held)) ≡ true → cond (holds heard) 0 (pulses-by (h .call) (is-accepted (heard .answer)) + since-hold log) ≤ 32644 =
+  -- what a core keeps along a log
+  pub kept : (log : Log m) → Truly m (new .map .mode) start log → Undisturbed m (new .map .mode) log → ShortStretches m (new .map .mode) log → Kept log
+  unfolding pulses-taken since-hold state-after sights-of is-held
+  kept [] heard quiet short = kept-at-start
+  kept (h ∷ log) heard quiet short =
+      let before = kept log (heard .1) (quiet .1) (short-earlier m (new .map .mode) start (h ∷ []) log short) in
+      let x : Sight = m .sight (new .map .mode) log h in
+      let within : held-by x (core-after log .held) ≡ true → since-by x (since-hold m (new .map .mode) start (sights log)) ≤ 32644 =
       λ q.
-      let held : is-held (heard ∷ log) ≡ true = ap (λ (z : Bool). cond (holds heard) true (cond (releases heard) false z)) (sym (before .1)) ∙ q in
-      let o = open-stretch (heard ∷ log) held in
+      let o = open-stretch m (new .map .mode) start (h ∷ log) (ap (held-by x) (sym (before .1)) ∙ q) in
       let few = short (o .stretch) in
       let same = o .pulses in
       omega arith in
-      let next = follow c law (new .trim) (new .trim-in-range) (new .map .mode) (new .shown) (starts .1) (h .call) s (pulses-taken log) (since-hold log) (before .0) quiet within in
-      (next .keeps, next .held-heard ∙ ap (λ (z : Bool). cond (holds heard) true (cond (releases heard) false z)) (before .1))
-
-  -- what a core keeps along a log
-  pub kept : (log : Log) → Truly c start log → Undisturbed (new .map .mode) log → ShortStretches log → Kept log
-  kept [] heard quiet short = kept-at-start
-  kept (h ∷ log) heard quiet short =
-      let before = kept log (heard .1) (quiet .1) (short-earlier (h ∷ []) log short) in
-      let Quiet : CoreAnswer → Type 0 = λ a. cond (is-accepted a) (writes (new .map .mode) (h .call)) false ≡ false in
-      let Short : CoreAnswer → Type 0 = λ a. ShortStretches (answered h a ∷ log) in
-      let Then : CoreAnswer → Type 0 = λ a. Kept (answered h a ∷ log) in
-      subst Then (sym (heard .0)) (kept-next h log before (subst Quiet (heard .0) (quiet .0)) (subst Short (heard .0) short))
+      let next =
+      keeps-on c law (new .trim) (new .trim-in-range) (new .map .mode) (new .shown) (starts .1) x (core-after log) (core-after (h ∷ log))
+      (pulses-taken (sights log)) (since-hold m (new .map .mode) start (sights log)) (before .0) (true-to h log heard) (quiet .0) within in
+      (next .0, next .1 ∙ ap (held-by x) (before .1))
 
   -- the hour mode stands
-  mode-stands : (log : Log) → Kept log → state-after c start log .map .mode ≡ new .map .mode
-  mode-stands log k = ap (λ (m : MapState). m .mode) (k .0 .coded)
+  mode-stands : (log : Log m) → Kept log → core-after log .map .mode ≡ new .map .mode
+  mode-stands log k = ap (λ (w : MapState). w .mode) (k .0 .coded)
 
   -- along a held stretch the core stays held over the map that the stretch found
-  held-map : (stretch : Log) (hold : Heard) (before : Log) → Truly c start (stretch ++ (hold ∷ before)) → Undisturbed (new .map .mode) (stretch ++ (hold ∷ before)) → ShortStretches (stretch ++ (hold ∷ before)) → holds hold ≡ true → All (λ h. releases h ≡ false) stretch → Stays (state-after c start before) (state-after c start (stretch ++ (hold ∷ before)))
-  unfolding state-after
+  held-map : (stretch : Log m) (hold : Heard (m .Call) (m .Answer)) (before : Log m) → Truly m (new .map .mode) start (stretch ++ (hold ∷ before)) → Undisturbed m (new .map .mode) (stretch ++ (hold ∷ before)) → ShortStretches m (new .map .mode) (stretch ++ (hold ∷ before)) → m .sight (new .map .mode) before hold ≡ Held → All (λ x. is-release x ≡ false) (sights-after m (new .map .mode) (hold ∷ before) stretch) → Stays (core-after before) (core-after (stretch ++ (hold ∷ before)))
+  unfolding state-after sights-of sights-after
   held-map [] hold before heard quiet short by on =
-      let First : CoreAnswer → Type 0 = λ a. cond (is-accepted a) (is-hold (hold .call)) false ≡ true in
-      held-first c (new .map .mode) (hold .call) (state-after c start before) (subst First (heard .0) by)
+      held-first c (new .map .mode) (m .sight (new .map .mode) before hold) (core-after before) (core-after (hold ∷ before)) (true-to hold before heard) by
   held-map (h ∷ stretch) hold before heard quiet short by on =
-      let rest : Log = stretch ++ (hold ∷ before) in
-      let short′ = short-earlier (h ∷ []) rest short in
+      let rest : Log m = stretch ++ (hold ∷ before) in
+      let short′ = short-earlier m (new .map .mode) start (h ∷ []) rest short in
       let earlier = held-map stretch hold before (heard .1) (quiet .1) short′ by (on .1) in
-      let Quiet : CoreAnswer → Type 0 = λ a. cond (is-accepted a) (writes (new .map .mode) (h .call)) false ≡ false in
-      let On : CoreAnswer → Type 0 = λ a. cond (is-accepted a) (is-release (h .call)) false ≡ false in
       let mode = mode-stands rest (kept rest (heard .1) (quiet .1) short′) in
       let now =
-      stays c (new .map .mode) (h .call) (state-after c start rest) (earlier .0) mode (subst Quiet (heard .0) (quiet .0)) (subst On (heard .0) (on .0)) in
+      stays c (new .map .mode) (m .sight (new .map .mode) rest h) (core-after rest) (core-after (h ∷ rest)) (true-to h rest heard) (earlier .0) mode (on .0) (quiet .0) in
       (now .0, now .1 ∙ earlier .1)
 
+  -- what a sight gives out stands in the cells
+  given : (x : Sight) (s t : CoreState) (row : List ℕ) → Acts c (new .map .mode) x s t → length (s .map .cells) ≡ c .count → s .map .cells ≡ row → GivenFrom row x
+  given (Took n) s t row acts whole e = tt
+  given Held s t row acts whole e = tt
+  given Released s t row acts whole e = tt
+  given Wrote s t row acts whole e = tt
+  given (Gave bytes) s t row acts whole e = λ cell byte b. acts .1 whole cell byte b ∙ ap (λ (r : List ℕ). getD r cell 0) e
+  given Nothing s t row acts whole e = tt
+
   -- what is given out along a held stretch is of the code of what was shown when it began
-  stretch-reads : (stretch : Log) (hold : Heard) (before : Log) (p : Shown) → Truly c start (stretch ++ (hold ∷ before)) → Undisturbed (new .map .mode) (stretch ++ (hold ∷ before)) → ShortStretches (stretch ++ (hold ∷ before)) → holds hold ≡ true → All (λ h. releases h ≡ false) stretch → calendar c start before ≡ Some p → All (λ h. (cell byte : ℕ) → cell-given (c .count) (h .call) (h .answer) cell ≡ Some byte → byte ≡ getD (c .code (new .map .mode) p) cell 0) stretch
+  stretch-reads : (stretch : Log m) (hold : Heard (m .Call) (m .Answer)) (before : Log m) (p : Shown) → Truly m (new .map .mode) start (stretch ++ (hold ∷ before)) → Undisturbed m (new .map .mode) (stretch ++ (hold ∷ before)) → ShortStretches m (new .map .mode) (stretch ++ (hold ∷ before)) → m .sight (new .map .mode) before hold ≡ Held → All (λ x. is-release x ≡ false) (sights-after m (new .map .mode) (hold ∷ before) stretch) → calendar m c start before ≡ Some p → All (GivenFrom (c .code (new .map .mode) p)) (sights-after m (new .map .mode) (hold ∷ before) stretch)
+  unfolding sights-of sights-after
   stretch-reads [] hold before p heard quiet short by on shown = tt
   stretch-reads (h ∷ stretch) hold before p heard quiet short by on shown =
-      let rest : Log = stretch ++ (hold ∷ before) in
-      let short′ = short-earlier (h ∷ []) rest short in
+      let rest : Log m = stretch ++ (hold ∷ before) in
+      let short′ = short-earlier m (new .map .mode) start (h ∷ []) rest short in
       let earlier = held-map stretch hold before (heard .1) (quiet .1) short′ by (on .1) in
       let mode = mode-stands rest (kept rest (heard .1) (quiet .1) short′) in
-      let same : shown-by c (state-after c start rest .map) ≡ Some p = ap (shown-by c) (earlier .1) ∙ shown in
-      let coded = law .shown-is-coded (state-after c start rest .map .mode) (state-after c start rest .map .cells) p same in
-      let cells : state-after c start rest .map .cells ≡ c .code (new .map .mode) p = sym (coded .0) ∙ ap (λ (m : HourMode). c .code m p) mode in
-      let whole : length (state-after c start rest .map .cells) ≡ c .count = ap length cells ∙ law .code-length (new .map .mode) p in (
-        (λ cell byte e.
-            let Given : CoreAnswer → Type 0 = λ a. cell-given (c .count) (h .call) a cell ≡ Some byte in
-            given-is c (new .map .mode) (h .call) (state-after c start rest) cell byte whole (subst Given (heard .0) e)
-            ∙ ap (λ (row : List ℕ). getD row cell 0) cells),
+      let same : shown-by c (core-after rest .map) ≡ Some p = ap (shown-by c) (earlier .1) ∙ shown in
+      let coded = law .shown-is-coded (core-after rest .map .mode) (core-after rest .map .cells) p same in
+      let cells : core-after rest .map .cells ≡ c .code (new .map .mode) p = sym (coded .0) ∙ ap (λ (o : HourMode). c .code o p) mode in
+      let whole : length (core-after rest .map .cells) ≡ c .count = ap length cells ∙ law .code-length (new .map .mode) p in (
+        given (m .sight (new .map .mode) rest h) (core-after rest) (m .core (m .step (state-after m start rest) (h .call) .1)) (c .code (new .map .mode) p) (true-to h rest heard) whole cells,
         stretch-reads stretch hold before p (heard .1) (quiet .1) short′ by (on .1) shown,
       )
 
   -- released, the seconds that are over are all on the map
-  applied-all : (log : Log) (k : Kept log) → is-held log ≡ false → k .0 .n ≡ k .0 .k
+  applied-all : (log : Log m) (k : Kept log) → is-held (sights log) ≡ false → k .0 .n ≡ k .0 .k
   applied-all log k free =
       let clear = k .0 .clear (k .1 ∙ free) in
       k .0 .applied ∙ ap (λ (b : Bool). cond b (suc (k .0 .k)) (k .0 .k)) clear
 
   -- the three statements after a log
-  pub keeps-time : (log : Log) → Truly c start log → Undisturbed (new .map .mode) log → ShortStretches log → Timekeeping c start new log
+  pub keeps-time : (log : Log m) → Truly m (new .map .mode) start log → Undisturbed m (new .map .mode) log → ShortStretches m (new .map .mode) log → Timekeeping m c start new log
   unfolding first-seconds
   keeps-time log heard quiet short =
       let k = kept log heard quiet short in
-      let fit : first-seconds (new .trim) (second-of (new .shown)) (k .0 .n) ≤ pulses-taken log = omega (arith, k .0 .counted) in
-      let no-more : pulses-taken log < first-seconds (new .trim) (second-of (new .shown)) (k .0 .n) + length-of-second (new .trim) (second-of (new .shown)) (k .0 .n) =
+      let total : ℕ = pulses-taken (sights log) in
+      let fit : first-seconds (new .trim) (second-of (new .shown)) (k .0 .n) ≤ total = omega (arith, k .0 .counted) in
+      let no-more : total < first-seconds (new .trim) (second-of (new .shown)) (k .0 .n) + length-of-second (new .trim) (second-of (new .shown)) (k .0 .n) =
       omega (arith, k .0 .counted, k .0 .within, k .0 .length-kept) in
-      let bounds = drift-bounds (new .trim) (second-of (new .shown)) (k .0 .n) (pulses-taken log) (new .trim-in-range) fit no-more in
+      let bounds = drift-bounds (new .trim) (second-of (new .shown)) (k .0 .n) total (new .trim-in-range) fit no-more in
       record {
         n = k .0 .n;
         whole-seconds = record { fit = fit; no-more = no-more };
         calendar-follows-whole-seconds = λ free.
             ap (shown-by c) (k .0 .coded)
             ∙ shown-coded c law (new .trim) (new .trim-in-range) (new .map .mode) (new .shown) (starts .1) (k .0 .k)
-            ∙ ap (λ (m : ℕ). Some (seconds-past c m (new .shown))) (sym (applied-all log k free));
+            ∙ ap (λ (i : ℕ). Some (seconds-past c i (new .shown))) (sym (applied-all log k free));
         calendar-stands-while-held = λ s newest.
-            let cut : log ≡ s .stretch ++ (s .hold ∷ s .before) = s .cut ∙ ap (λ (l : Log). l ++ (s .stretch ++ (s .hold ∷ s .before))) newest in
+            let cut : log ≡ s .stretch ++ (s .hold ∷ s .before) = s .cut ∙ ap (λ (l : Log m). l ++ (s .stretch ++ (s .hold ∷ s .before))) newest in
             let stands =
-            held-map (s .stretch) (s .hold) (s .before) (subst (Truly c start) cut heard) (subst (Undisturbed (new .map .mode)) cut quiet) (subst ShortStretches cut short)
-            (s .held-by) (s .unreleased) in
-            ap (λ (l : Log). shown-by c (state-after c start l .map)) cut ∙ ap (shown-by c) (stands .1);
+            held-map (s .stretch) (s .hold) (s .before) (subst (Truly m (new .map .mode) start) cut heard) (subst (Undisturbed m (new .map .mode)) cut quiet)
+            (subst (ShortStretches m (new .map .mode)) cut short) (s .holds) (s .unreleased) in
+            ap (λ (l : Log m). shown-by c (core-after l .map)) cut ∙ ap (shown-by c) (stands .1);
         drift-not-below = bounds .0;
         drift-not-above = bounds .1;
         reads-in-a-stretch-agree = λ s p shown.
-            let part : Log = s .stretch ++ (s .hold ∷ s .before) in
+            let part : Log m = s .stretch ++ (s .hold ∷ s .before) in
             stretch-reads (s .stretch) (s .hold) (s .before) p
-            (truly-earlier c start (s .later) part (subst (Truly c start) (s .cut) heard))
-            (all-earlier (λ h. cond (is-accepted (h .answer)) (writes (new .map .mode) (h .call)) false ≡ false) (s .later) part (subst (Undisturbed (new .map .mode)) (s .cut) quiet))
-            (short-earlier (s .later) part (subst ShortStretches (s .cut) short))
-            (s .held-by) (s .unreleased) shown;
+            (truly-earlier m (new .map .mode) start (s .later) part (subst (Truly m (new .map .mode) start) (s .cut) heard))
+            (all-earlier m (new .map .mode) start (λ x. is-write x ≡ false) (s .later) part (subst (Undisturbed m (new .map .mode)) (s .cut) quiet))
+            (short-earlier m (new .map .mode) start (s .later) part (subst (ShortStretches m (new .map .mode)) (s .cut) short))
+            (s .holds) (s .unreleased) shown;
       }
 
--- the law for every list of calls
-pub the-law : (c : Chart) → Lawful c → (start : CoreState) (calls : List CoreCall) → KeepsTime c start calls
-the-law c law start calls new quiet short later log cut =
-    let heard = truly-with c start calls [] tt in
-    keeps-time c law start new log (truly-earlier c start later log (subst (Truly c start) cut heard))
-    (all-earlier (λ h. cond (is-accepted (h .answer)) (writes (new .map .mode) (h .call)) false ≡ false) later log (subst (Undisturbed (new .map .mode)) cut quiet))
-    (short-earlier later log (subst ShortStretches cut short))
+-- the law for every list of calls on a machine that is true to its sights
+pub the-law : (m : Machine) (c : Chart) → Lawful c → (start : m .State) → ((mode : HourMode) → TrueToSights m c mode start) → (calls : List (m .Call)) → KeepsTime m c start calls
+the-law m c law start true-to calls new quiet short later log cut =
+    let mode : HourMode = new .map .mode in
+    let heard = truly-with m mode start calls [] tt in
+    keeps-time m c law start new (true-to mode) log (truly-earlier m mode start later log (subst (Truly m mode start) cut heard))
+    (all-earlier m mode start (λ x. is-write x ≡ false) later log (subst (Undisturbed m mode) cut quiet))
+    (short-earlier m mode start later log (subst (ShortStretches m mode) cut short))

@@ -7,8 +7,9 @@ use Rattle.register_map.specs.Chart.{Chart, Lawful, Shown, MapState, shown-by, 
 use Rattle.clock_core.specs.Core.{CoreState, new-core}
 use Rattle.timekeeping.specs.declared.call.CoreCall.{CoreCall}
 use Rattle.timekeeping.specs.declared.call.CoreCall.the-variants.{Pulses, Hold, Release, Look}
-use Rattle.timekeeping.specs.Calls.{log-of}
-use Rattle.timekeeping.specs.Law.{NewlyMade, Undisturbed, ShortStretches, calendar}
+use Rattle.timekeeping.specs.CoreCalls.{core-machine}
+use Rattle.timekeeping.specs.Law.{NewlyMade, calendar}
+use Rattle.timekeeping.specs.Logs.{log-of, Undisturbed, ShortStretches}
 
 -- The core is held for as long as a stretch may last, is looked at, and released.
 abbrev pub example-calls : List CoreCall
@@ -21,9 +22,9 @@ example-core c m = new-core c m 0x42
 -- The premises hold, and the boundary that was crossed while held is on the calendar after release.
 pub record MeetsPremises (c : Chart) (m : MapState) (p : Shown) : Type 0 where
   pub newly-made : NewlyMade c (example-core c m)
-  pub undisturbed : Undisturbed (m .mode) (log-of c (example-core c m) example-calls)
-  pub short-stretches : ShortStretches (log-of c (example-core c m) example-calls)
-  pub one-second-on : calendar c (example-core c m) (log-of c (example-core c m) example-calls) ≡ Some (second-after c p)
+  pub undisturbed : Undisturbed (core-machine c) (m .mode) (log-of (core-machine c) (example-core c m) example-calls)
+  pub short-stretches : ShortStretches (core-machine c) (m .mode) (log-of (core-machine c) (example-core c m) example-calls)
+  pub one-second-on : calendar (core-machine c) c (example-core c m) (log-of (core-machine c) (example-core c m) example-calls) ≡ Some (second-after c p)
 
 -- On every lawful map that shows such a moment.
 abbrev pub PremisesCanBeMet : Type 0

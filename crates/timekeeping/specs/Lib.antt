@@ -1,3 +1,5 @@
-pub mod Calls
+pub mod CoreCalls
 pub mod Example
 pub mod Law
+pub mod Logs
+pub mod Seconds

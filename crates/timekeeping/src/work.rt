@@ -3,7 +3,8 @@ ghost use mathlib.Core.Path.{_≡_};
 ghost use Rattle.std.specs.Of.Vec.{vec-items};
 ghost use Rattle.std.specs.Results.{Cases};
 ghost use Rattle.clock_core.specs.View.{meant};
-ghost use Rattle.timekeeping.specs.Calls.{acceptance, byte-read, registers-seen, do-call, outcome};
+ghost use Rattle.timekeeping.specs.CoreCalls.{acceptance, byte-read, registers-seen, do-call, core-machine};
+ghost use Rattle.timekeeping.specs.Logs.{outcome};
 ghost use Rattle.timekeeping.specs.Law.{KeepsTime};
 use crate::call::CoreAnswer;
 use crate::call::CoreCall;
@@ -80,8 +81,8 @@ pub fn work_calls<M: RegisterMap>(
     core: &mut ClockCore<M>,
     calls: &[CoreCall],
 ) -> Result<Vec<CoreAnswer>, AllocError>
-    ensures answers { λ r. ⌜ Cases r (λ v. outcome (M·RegisterMap .chart) (meant M·RegisterMap (now (core .entry))) (now (calls .entry)) ≡ (vec-items v, meant M·RegisterMap (now (core .exit)))) (λ _. meant M·RegisterMap (now (core .exit)) ≡ meant M·RegisterMap (now (core .entry))) ⌝ }
-    ensures law { λ _. ⌜ KeepsTime (M·RegisterMap .chart) (meant M·RegisterMap (now (core .entry))) (now (calls .entry)) ⌝ }
+    ensures answers { λ r. ⌜ Cases r (λ v. outcome (core-machine (M·RegisterMap .chart)) (meant M·RegisterMap (now (core .entry))) (now (calls .entry)) ≡ (vec-items v, meant M·RegisterMap (now (core .exit)))) (λ _. meant M·RegisterMap (now (core .exit)) ≡ meant M·RegisterMap (now (core .entry))) ⌝ }
+    ensures law { λ _. ⌜ KeepsTime (core-machine (M·RegisterMap .chart)) (M·RegisterMap .chart) (meant M·RegisterMap (now (core .entry))) (now (calls .entry)) ⌝ }
 {
     let mut answers = Vec::with_capacity(heap, calls.len())?;
     for call in calls {

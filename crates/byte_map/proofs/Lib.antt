@@ -1,0 +1,3 @@
+pub mod MaskLaws
+pub mod RowLaws
+pub mod StepLaws

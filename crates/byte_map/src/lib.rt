@@ -1,0 +1,3 @@
+// The register map of seven packed decimal cells, over two centuries.
+mod cells;
+pub mod map;

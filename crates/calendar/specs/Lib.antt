@@ -1,0 +1,9 @@
+pub mod Runs
+pub mod Months
+pub mod Dates
+pub mod Times
+pub mod Moments
+pub mod Digits
+pub mod Fields
+pub mod Spelling
+pub mod Views
