@@ -1,6 +1,10 @@
+pub mod CoreSights
 pub mod Drift
+pub mod Examples
 pub mod Heard
 pub mod Keeping
 pub mod Moments
+pub mod Outcomes
+pub mod ShortLogs
 pub mod Stretches
 pub mod Theorem
