@@ -11,7 +11,7 @@ use Rattle.calendar.specs.Runs.{Place, placed, place, start}
 use Rattle.calendar.specs.Months.{leap, month-lengths, month-length}
 use Rattle.calendar.specs.Dates.{CivilDate, date, LawfulDate, year-start, day-number, year-of-day, date-at, date-in-year, date-of-day, new-year, next-month, next-day, next-date}
 use Rattle.calendar.proofs.RunLaws.{start-none, place-of-start, Falls, falls}
-use Rattle.calendar.proofs.MonthLaws.{twelve, usual, whole-year, before-year-ends, month-ends}
+use Rattle.calendar.proofs.MonthLaws.{twelve, listed, usual-length, whole-year, before-year-ends, month-ends}
 
 -- the day of the year, from 0
 abbrev pub day-of-year : CivilDate → ℕ
@@ -31,7 +31,8 @@ unfolding date-in-year
 in-month y m rest h k i =
     let j : m - 1 < length (month-lengths (leap y)) = omega (arith, twelve (leap y)) in
     let month : m - 1 + 1 ≡ m = omega arith in
-    rw (place-of-start (month-lengths (leap y)) (m - 1) rest j i, month)
+    let inside : rest < getD (month-lengths (leap y)) (m - 1) 0 = omega (arith, listed (leap y) m h k) in
+    rw (place-of-start (month-lengths (leap y)) (m - 1) rest j inside, month)
 
 pub date-in-year-of : (d : CivilDate) → LawfulDate d → date-in-year (d .year) (day-of-year d) ≡ d
 date-in-year-of d ok =
@@ -42,12 +43,10 @@ pub year-of-number : (y n : ℕ) → n < start (month-lengths (leap y)) 12 → y
 year-of-number y n h = omega (arith, whole-year y)
 
 pub split-number : (d : CivilDate) → day-number d ≡ year-start (d .year) + day-of-year d
-unfolding day-number
 split-number d = omega arith
 
 -- the date of a date's number is that date
 pub date-of-number : (d : CivilDate) → LawfulDate d → date-of-day (day-number d) ≡ d
-unfolding date-of-day
 date-of-number d ok =
     let y = year-of-number (d .year) (day-of-year d) (within-year d ok) in
     let n : year-start (d .year) + day-of-year d - year-start (d .year) ≡ day-of-year d = omega arith in
@@ -59,19 +58,20 @@ pub record Dated (n : ℕ) (d : CivilDate) : Type 0 where
   pub numbered : day-number d ≡ n
 
 pub dated-in-year : (y n : ℕ) → n < start (month-lengths (leap y)) 12 → Dated (year-start y + n) (date-in-year y n)
-unfolding date-in-year day-number
+unfolding date-in-year
 dated-in-year y n h =
     let f = falls (month-lengths (leap y)) n (rw (twelve (leap y)) h) in
     let p = place (month-lengths (leap y)) n in
     let run : p .run + 1 - 1 ≡ p .run = omega arith in
+    let long = listed (leap y) (p .run + 1) (omega arith) (omega (arith, twelve (leap y), f .a-run)) in
+    let here = ap (λ k. getD (month-lengths (leap y)) k 0) run in
     record {
-      lawful = record { from-january = omega arith; to-december = omega (arith, twelve (leap y), f .a-run); from-first = omega arith; to-last = rw run (omega (arith, f .inside)) };
+      lawful = record { from-january = omega arith; to-december = omega (arith, twelve (leap y), f .a-run); from-first = omega arith; to-last = omega (arith, f .inside, long, here) };
       numbered = rw run (omega (arith, f .counted));
     }
 
 -- the date of a day exists and has that day for its number
 pub dated : (n : ℕ) → Dated n (date-of-day n)
-unfolding date-of-day
 dated n =
     let y = year-of-day n in
     let whole : year-start y + (n - year-start y) ≡ n = omega arith in
@@ -95,19 +95,15 @@ follows-up years d e ok h up =
 -- the first of January exists, and its number is where the year starts
 -- the month after this one has a first day
 pub first-of-month : (year month : ℕ) → month < 12 → 1 ≤ month-length year (month + 1)
-first-of-month year month h =
-    let next : month + 1 - 1 ≡ month = omega arith in
-    rw next (usual (leap year) month h .0)
+first-of-month year month h = usual-length year (month + 1) (omega arith) (omega arith) .0
 
 pub january : (year : ℕ) → LawfulDate (date year 1 1)
-january year = record { from-january = omega arith; to-december = omega arith; from-first = omega arith; to-last = usual (leap year) 0 (omega arith) .0 }
+january year = record { from-january = omega arith; to-december = omega arith; from-first = omega arith; to-last = usual-length year 1 (omega arith) (omega arith) .0 }
 
 january-number : (year : ℕ) → day-number (date year 1 1) ≡ year-start year
-unfolding day-number
 january-number year = omega (arith, start-none (month-lengths (leap year)))
 
 pub follows : (years : ℕ) (d : CivilDate) → LawfulDate d → d .year < years → Follows years d (next-date years d)
-unfolding next-date
 follows years d ok h = by-day (ltb (d .day) (month-length (d .year) (d .month))) refl
   where
     by-year : (b : Bool) → ltb (d .year + 1) years ≡ b → day-number d + 1 ≡ year-start (d .year + 1) → Follows years d (new-year b (d .year))
@@ -121,9 +117,8 @@ follows years d ok h = by-day (ltb (d .day) (month-length (d .year) (d .month)))
     by-month true e last =
         let next : d .month + 1 - 1 ≡ d .month = omega arith in
         let k : d .month < 12 = ltb-true (d .month) 12 e in
-        let a = usual (leap (d .year)) (d .month) k in
         follows-up years d (date (d .year) (d .month + 1) 1)
-        (record { from-january = omega arith; to-december = omega arith; from-first = omega arith; to-last = rw next (a .0) })
+        (record { from-january = omega arith; to-december = omega arith; from-first = omega arith; to-last = first-of-month (d .year) (d .month) k })
         h
         (split-number (date (d .year) (d .month + 1) 1) ∙ rw next (omega (arith, split-number d, its-month-ends d ok, ok .from-first)))
     by-month false e last =
@@ -137,21 +132,3 @@ follows years d ok h = by-day (ltb (d .day) (month-length (d .year) (d .month)))
         h
         (omega (arith, split-number (date (d .year) (d .month) (d .day + 1)), split-number d, ok .from-first))
     by-day false e = by-month (ltb (d .month) 12) refl (omega (arith, ltb-false (d .day) (month-length (d .year) (d .month)) e, ok .to-last))
-
--- the next date, case by case
-module _ (years y m d : ℕ) where
-  pub next-in-month : d < month-length y m → date y m (d + 1) ≡ next-date years (date y m d)
-  unfolding next-date
-  next-in-month a = rw (lt-ltb d (month-length y m) a)
-
-  pub next-in-year : month-length y m ≤ d → m < 12 → date y (m + 1) 1 ≡ next-date years (date y m d)
-  unfolding next-date
-  next-in-year a b = rw (le-ltb d (month-length y m) a, lt-ltb m 12 b)
-
-  pub next-is-new-year : month-length y m ≤ d → 12 ≤ m → y + 1 < years → date (y + 1) 1 1 ≡ next-date years (date y m d)
-  unfolding next-date
-  next-is-new-year a b c = rw (le-ltb d (month-length y m) a, le-ltb m 12 b, lt-ltb (y + 1) years c)
-
-  pub next-is-first-year : month-length y m ≤ d → 12 ≤ m → years ≤ y + 1 → date 0 1 1 ≡ next-date years (date y m d)
-  unfolding next-date
-  next-is-first-year a b c = rw (le-ltb d (month-length y m) a, le-ltb m 12 b, le-ltb (y + 1) years c)

@@ -6,3 +6,4 @@ pub mod MomentLaws
 pub mod DigitLaws
 pub mod FieldLaws
 pub mod SpellingLaws
+pub mod CellLaws

@@ -32,7 +32,7 @@ lawful-civil n = record { a-date = dated (n / 86400) .lawful; a-time = timed (n 
 
 -- a moment of the cycle lies in one of its years
 pub year-in-cycle : (years n : ℕ) → n < cycle-of years → civil-of n .on .year < years
-unfolding date-of-day date-in-year
+unfolding date-in-year
 year-in-cycle years n h = omega arith
 
 pub moment-in-cycle : (years : ℕ) (f : Civil) → LawfulCivil f → f .on .year < years → moment-of f < cycle-of years

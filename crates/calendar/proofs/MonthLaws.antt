@@ -5,19 +5,12 @@ use mathlib.Core.List.{List, [], _∷_}
 use Prim.Native.Nat.{ℕ, zero, suc, _+_, _-_, _*_, _/_, _%_, _<_, _≤_}
 use native.Mathlib.Omega.{arith}
 use lib.ListN.{length, getD}
-use Rattle.std.proofs.shelf.Tests.{true≢false, eqb-true, eqb-false}
+use Rattle.std.proofs.shelf.Counted.{getD-map-counting}
+use Rattle.std.proofs.shelf.Tests.{eqb-true, eqb-false}
 use Rattle.calendar.specs.Runs.{start}
 use Rattle.calendar.proofs.RunLaws.{start-more, start-up}
 use Rattle.calendar.specs.Dates.{year-start}
-use Rattle.calendar.specs.Months.{leap, month-lengths}
-
--- outside February of a leap year, a month is as long as in a common year
-pub as-in-common : (b : Bool) (k : ℕ) → (k ≡ 1 → b ≡ false) → getD (31 ∷ 28 ∷ 31 ∷ 30 ∷ 31 ∷ 30 ∷ 31 ∷ 31 ∷ 30 ∷ 31 ∷ 30 ∷ 31 ∷ []) k 0 ≡ getD (month-lengths b) k 0
-unfolding month-lengths
-as-in-common true zero h = refl
-as-in-common true (suc zero) h = absurd (true≢false (h refl))
-as-in-common true (suc (suc k)) h = refl
-as-in-common false k h = refl
+use Rattle.calendar.specs.Months.{leap, length-when, month-length, month-lengths}
 
 pub twelve : (b : Bool) → length (month-lengths b) ≡ 12
 unfolding month-lengths
@@ -43,6 +36,18 @@ unfolding month-lengths
 usual true k h = at-each Usual (month-lengths true) (omega arith) k h
 usual false k h = at-each Usual (month-lengths false) (omega arith) k h
 
+-- a month's length in the list
+pub listed : (b : Bool) (month : ℕ) → 1 ≤ month → month ≤ 12 → getD (month-lengths b) (month - 1) 0 ≡ length-when b month
+unfolding month-lengths
+listed b month h k = getD-map-counting (length-when b) 1 12 (month - 1) month 0 (omega arith) (omega arith)
+
+pub usual-length : (year month : ℕ) → 1 ≤ month → month ≤ 12 → Usual (month-length year month)
+usual-length year month h k = subst Usual (listed (leap year) month h k) (usual (leap year) (month - 1) (omega arith))
+
+-- no date has a day over 31
+pub day-at-most : (year month day : ℕ) → 1 ≤ month → month ≤ 12 → day ≤ month-length year month → day ≤ 31
+day-at-most year month day h k i = omega (arith, usual-length year month h k)
+
 -- the twelve months make up the year
 pub whole-year : (y : ℕ) → year-start y + start (month-lengths (leap y)) 12 ≡ year-start (y + 1)
 unfolding month-lengths start
@@ -62,20 +67,25 @@ pub before-year-ends : (b : Bool) (month : ℕ) → start (month-lengths b) mont
 before-year-ends b month = rw (twelve b) at (start-up (month-lengths b) month)
 
 -- a month ends where the next one starts
-pub month-ends : (b : Bool) (month : ℕ) → 1 ≤ month → month ≤ 12 → start (month-lengths b) (month - 1) + getD (month-lengths b) (month - 1) 0 ≡ start (month-lengths b) month
+pub month-ends : (b : Bool) (month : ℕ) → 1 ≤ month → month ≤ 12 → start (month-lengths b) (month - 1) + length-when b month ≡ start (month-lengths b) month
 month-ends b month h k =
     let e : suc (month - 1) ≡ month = omega arith in
     let i : month - 1 < length (month-lengths b) = omega (arith, twelve b) in
-    rw e at (sym (start-more (month-lengths b) (month - 1) i))
+    let next : start (month-lengths b) month ≡ start (month-lengths b) (month - 1) + getD (month-lengths b) (month - 1) 0 = rw e at (start-more (month-lengths b) (month - 1) i) in
+    omega (arith, next, listed b month h k)
 
 -- the same, as a loop over the months meets it
-pub month-more : (b : Bool) (month : ℕ) → 1 ≤ month → month ≤ 12 → start (month-lengths b) (month - 1) + getD (month-lengths b) (month - 1) 0 ≡ start (month-lengths b) (month + 1 - 1)
+pub month-more : (b : Bool) (month : ℕ) → 1 ≤ month → month ≤ 12 → start (month-lengths b) (month - 1) + length-when b month ≡ start (month-lengths b) (month + 1 - 1)
 month-more b month h k =
     let e : month + 1 - 1 ≡ month = omega arith in
     rw e (month-ends b month h k)
 
+december : (b : Bool) → length-when b 12 ≡ 31
+december true = refl
+december false = refl
+
 -- what is left after eleven months falls in the twelfth
-pub in-december : (b : Bool) (month rest day : ℕ) → month ≡ 12 → start (month-lengths b) (month - 1) + rest ≡ day → day < start (month-lengths b) 12 → (rest < getD (month-lengths b) 11 0) × (start (month-lengths b) 11 + rest ≡ day)
+pub in-december : (b : Bool) (month rest day : ℕ) → month ≡ 12 → start (month-lengths b) (month - 1) + rest ≡ day → day < start (month-lengths b) 12 → (rest < 31) × (start (month-lengths b) 11 + rest ≡ day)
 in-december b month rest day e i h =
     let i′ : start (month-lengths b) 11 + rest ≡ day = subst (λ (m : ℕ). start (month-lengths b) (m - 1) + rest ≡ day) e i in
-    (omega (arith, month-ends b 12 (omega arith) (omega arith)), i′)
+    (omega (arith, month-ends b 12 (omega arith) (omega arith), december b), i′)

@@ -1,5 +1,5 @@
 -- Dates and times of day, and the digits that spell them, are each other's inverse.
-use mathlib.Core.Path.{_≡_, refl, sym, ap, subst, _∙_}
+use mathlib.Core.Path.{_≡_, refl, sym, ap, ap₂, subst, _∙_}
 use mathlib.Core.Bool.{Bool, true, false, cond, _&&_}
 use Prim.Native.Nat.{ℕ, _+_, _-_, _*_, _/_, _%_, _<_, _≤_}
 use native.Mathlib.Omega.{arith}
@@ -14,7 +14,7 @@ use Rattle.calendar.specs.Dates.{CivilDate, date, LawfulDate, existing-date}
 use Rattle.calendar.specs.Times.{ClockTime, time, LawfulTime, existing-time}
 use Rattle.calendar.specs.Digits.{digits-of, number-of, hour-digits, hour-of}
 use Rattle.calendar.specs.Spelling.{then, time-spelt, date-spelt}
-use Rattle.calendar.proofs.MonthLaws.{usual}
+use Rattle.calendar.proofs.MonthLaws.{day-at-most}
 use Rattle.calendar.proofs.DigitLaws.{passes, number-of-digits, digits-of-number, hour-of-digits, digits-of-hour}
 
 -- what was read, where something was read next
@@ -37,7 +37,6 @@ existing-time-is h m s t e =
 
 -- the digits of a time of day spell it
 pub time-spelt-is : (m : HourMode) (mark : ℕ) (t : ClockTime) → 2 ≤ mark → LawfulTime t → time-spelt m mark (hour-digits m mark (t .hour)) (digits-of (t .minute)) (digits-of (t .second)) ≡ Some t
-unfolding time-spelt
 time-spelt-is m mark t k ok =
     rw (
       hour-of-digits m mark (t .hour) k (ok .an-hour),
@@ -45,6 +44,12 @@ time-spelt-is m mark t k ok =
       number-of-digits (t .second) (omega (arith, ok .a-second)),
     )
     (time-exists t ok)
+
+pub time-spelt-as : (m : HourMode) (mark : ℕ) (t : ClockTime) (hours minutes seconds : Digits) → 2 ≤ mark → LawfulTime t → hours ≡ hour-digits m mark (t .hour) → minutes ≡ digits-of (t .minute) → seconds ≡ digits-of (t .second) → time-spelt m mark hours minutes seconds ≡ Some t
+time-spelt-as m mark t hours minutes seconds k ok a b c =
+    ap (λ x. time-spelt m mark x minutes seconds) a
+    ∙ ap₂ (λ x y. time-spelt m mark (hour-digits m mark (t .hour)) x y) b c
+    ∙ time-spelt-is m mark t k ok
 
 -- What is known of digits that spell a time of day.
 pub record SpellsTime (m : HourMode) (mark : ℕ) (hours minutes seconds : Digits) (t : ClockTime) : Type 0 where
@@ -54,7 +59,6 @@ pub record SpellsTime (m : HourMode) (mark : ℕ) (hours minutes seconds : Digit
   pub of-second : digits-of (t .second) ≡ seconds
 
 pub spells-time : (m : HourMode) (mark : ℕ) (hours minutes seconds : Digits) (t : ClockTime) → 2 ≤ mark → time-spelt m mark hours minutes seconds ≡ Some t → SpellsTime m mark hours minutes seconds t
-unfolding time-spelt
 spells-time m mark hours minutes seconds t k e =
     let h = first-read (hour-of m mark hours) (λ h. then (number-of minutes) λ n. then (number-of seconds) λ s. existing-time h n s) t e in
     let n = first-read (number-of minutes) (λ n. then (number-of seconds) λ s. existing-time (h .0) n s) t (h .2) in
@@ -81,16 +85,11 @@ existing-date-is y m n d e =
     let ok : LawfulDate (date y m n) = record { from-january = ltb-true 0 m (s .0); to-december = leb-true m 12 (s .1); from-first = ltb-true 0 n (r .1); to-last = leb-true n (month-length y m) (q .1) } in
     (subst LawfulDate (p .1) ok, p .1)
 
--- no date has a day over 31
-pub day-at-most : (d : CivilDate) → LawfulDate d → d .day ≤ 31
-day-at-most d ok = omega (arith, usual (leap (d .year)) (d .month - 1) (omega arith))
-
 -- the century and digits of a date spell it
 pub date-spelt-is : (d : CivilDate) → LawfulDate d → date-spelt (d .year / 100) (digits-of (d .year % 100)) (digits-of (d .month)) (digits-of (d .day)) ≡ Some d
-unfolding date-spelt
 date-spelt-is d ok =
     let year : 100 * (d .year / 100) + d .year % 100 ≡ d .year = omega arith in
-    let day = day-at-most d ok in
+    let day = day-at-most (d .year) (d .month) (d .day) (ok .from-january) (ok .to-december) (ok .to-last) in
     rw (
       number-of-digits (d .year % 100) (omega arith),
       number-of-digits (d .month) (omega (arith, ok .to-december)),
@@ -98,6 +97,12 @@ date-spelt-is d ok =
       year,
     )
     (date-exists d ok)
+
+pub date-spelt-as : (d : CivilDate) (century : ℕ) (years months days : Digits) → LawfulDate d → century ≡ d .year / 100 → years ≡ digits-of (d .year % 100) → months ≡ digits-of (d .month) → days ≡ digits-of (d .day) → date-spelt century years months days ≡ Some d
+date-spelt-as d century years months days ok a b c e =
+    ap₂ (λ x y. date-spelt x y months days) a b
+    ∙ ap₂ (λ x y. date-spelt (d .year / 100) (digits-of (d .year % 100)) x y) c e
+    ∙ date-spelt-is d ok
 
 -- What is known of a century and digits that spell a date.
 pub record SpellsDate (century : ℕ) (years months days : Digits) (d : CivilDate) : Type 0 where
@@ -108,7 +113,6 @@ pub record SpellsDate (century : ℕ) (years months days : Digits) (d : CivilDat
   pub of-day : digits-of (d .day) ≡ days
 
 pub spells-date : (century : ℕ) (years months days : Digits) (d : CivilDate) → date-spelt century years months days ≡ Some d → SpellsDate century years months days d
-unfolding date-spelt
 spells-date century years months days d e =
     let y = first-read (number-of years) (λ y. then (number-of months) λ m. then (number-of days) λ n. existing-date (100 * century + y) m n) d e in
     let m = first-read (number-of months) (λ m. then (number-of days) λ n. existing-date (100 * century + y .0) m n) d (y .2) in

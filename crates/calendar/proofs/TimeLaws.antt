@@ -29,7 +29,6 @@ pub record Ticks (t u : ClockTime) : Type 0 where
   pub stepped : second-of-day u ≡ (second-of-day t + 1) % 86400
 
 pub ticks : (t : ClockTime) → LawfulTime t → Ticks t (next-time t)
-unfolding next-time
 ticks t ok = by-second (ltb (t .second) 59) refl
   where
     by-hour : (b : Bool) → ltb (t .hour) 23 ≡ b → t .minute ≡ 59 → t .second ≡ 59 → Ticks t (next-hour b t)
@@ -44,27 +43,8 @@ ticks t ok = by-second (ltb (t .second) 59) refl
     by-second true e = let k = ltb-true (t .second) 59 e in omega arith
     by-second false e = let k = ltb-false (t .second) 59 e in by-minute (ltb (t .minute) 59) refl (omega arith)
 
--- the next time, case by case
-module _ (h m s : ℕ) where
-  pub next-in-minute : s < 59 → time h m (s + 1) ≡ next-time (time h m s)
-  unfolding next-time
-  next-in-minute a = rw (lt-ltb s 59 a)
-
-  pub next-in-hour : 59 ≤ s → m < 59 → time h (m + 1) 0 ≡ next-time (time h m s)
-  unfolding next-time
-  next-in-hour a b = rw (le-ltb s 59 a, lt-ltb m 59 b)
-
-  pub next-in-day : 59 ≤ s → 59 ≤ m → h < 23 → time (h + 1) 0 0 ≡ next-time (time h m s)
-  unfolding next-time
-  next-in-day a b d = rw (le-ltb s 59 a, le-ltb m 59 b, lt-ltb h 23 d)
-
-  pub next-is-midnight : 59 ≤ s → 59 ≤ m → 23 ≤ h → time 0 0 0 ≡ next-time (time h m s)
-  unfolding next-time
-  next-is-midnight a b d = rw (le-ltb s 59 a, le-ltb m 59 b, le-ltb h 23 d)
-
 -- what a second later keeps, by what it shows then
 pub keeps-minute : (t : ClockTime) → (next-time t .second ≡ 0 → ⊥) → next-time t ≡ time (t .hour) (t .minute) (next-time t .second)
-unfolding next-time
 keeps-minute t h = by-second (ltb (t .second) 59) h
   where
     by-hour : (b : Bool) → (next-hour b t .second ≡ 0 → ⊥) → next-hour b t ≡ time (t .hour) (t .minute) (next-hour b t .second)
@@ -80,7 +60,6 @@ keeps-minute t h = by-second (ltb (t .second) 59) h
     by-second false h = by-minute (ltb (t .minute) 59) h
 
 pub keeps-hour : (t : ClockTime) → next-time t .second ≡ 0 → (next-time t .minute ≡ 0 → ⊥) → next-time t ≡ time (t .hour) (next-time t .minute) (next-time t .second)
-unfolding next-time
 keeps-hour t z h = by-second (ltb (t .second) 59) z h
   where
     by-hour : (b : Bool) → (next-hour b t .minute ≡ 0 → ⊥) → next-hour b t ≡ time (t .hour) (next-hour b t .minute) (next-hour b t .second)

@@ -32,7 +32,7 @@ abbrev pub year-start : ℕ → ℕ
 year-start year = 365 * year + (year + 3) / 4
 
 -- The number of a date, from 0 on 1 January of year 0.
-unfoldable pub day-number : CivilDate → ℕ
+abbrev pub day-number : CivilDate → ℕ
 day-number d = year-start (d .year) + start (month-lengths (leap (d .year))) (d .month - 1) + (d .day - 1)
 
 -- The year of a day; four years have 1461 days, the first of them 366.
@@ -47,7 +47,7 @@ unfoldable pub date-in-year : ℕ → ℕ → CivilDate
 date-in-year year day = date-at year (place (month-lengths (leap year)) day)
 
 -- The date of a day.
-unfoldable pub date-of-day : ℕ → CivilDate
+abbrev pub date-of-day : ℕ → CivilDate
 date-of-day day = date-in-year (year-of-day day) (day - year-start (year-of-day day))
 
 -- The first of January that follows, round a number of years.
@@ -64,5 +64,5 @@ next-day true years d = date (d .year) (d .month) (d .day + 1)
 next-day false years d = next-month (ltb (d .month) 12) years d
 
 -- The next date: the next day of the month, else the first of the next month, else the first of January.
-unfoldable pub next-date : ℕ → CivilDate → CivilDate
+abbrev pub next-date : ℕ → CivilDate → CivilDate
 next-date years d = next-day (ltb (d .day) (month-length (d .year) (d .month))) years d

@@ -14,14 +14,14 @@ then None next = None
 then (Some x) next = next x
 
 -- The time of day that digits spell, if there is one.
-unfoldable pub time-spelt : HourMode → ℕ → Digits → Digits → Digits → Option ClockTime
+abbrev pub time-spelt : HourMode → ℕ → Digits → Digits → Digits → Option ClockTime
 time-spelt mode mark hours minutes seconds =
     then (hour-of mode mark hours) λ hour.
     then (number-of minutes) λ minute.
     then (number-of seconds) λ second. existing-time hour minute second
 
 -- The date that a century and digits spell, if there is one; the digits of the year are its last two.
-unfoldable pub date-spelt : ℕ → Digits → Digits → Digits → Option CivilDate
+abbrev pub date-spelt : ℕ → Digits → Digits → Digits → Option CivilDate
 date-spelt century years months days =
     then (number-of years) λ year.
     then (number-of months) λ month.

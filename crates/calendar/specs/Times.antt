@@ -45,5 +45,5 @@ next-second true t = time (t .hour) (t .minute) (t .second + 1)
 next-second false t = next-minute (ltb (t .minute) 59) t
 
 -- The time one second later; midnight follows 23:59:59.
-unfoldable pub next-time : ClockTime → ClockTime
+abbrev pub next-time : ClockTime → ClockTime
 next-time t = next-second (ltb (t .second) 59) t

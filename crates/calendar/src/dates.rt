@@ -1,10 +1,10 @@
 // Dates from and to day numbers, and the date after a date.
-ghost use Prim.Native.Nat.{_<_};
+ghost use Prim.Native.Nat.{_-_, _<_, _≤_};
 ghost use mathlib.Core.Path.{_≡_};
 ghost use Rattle.std.specs.Options.{mapped};
 ghost use Rattle.calendar.specs.Months.{leap, month-lengths};
 ghost use Rattle.calendar.specs.Runs.{start};
-ghost use Rattle.calendar.specs.Dates.{date, day-number, year-start, date-in-year, date-of-day, existing-date, next-date};
+ghost use Rattle.calendar.specs.Dates.{date, day-number, year-start, year-of-day, date-in-year, date-of-day, existing-date, next-date};
 ghost use Rattle.calendar.specs.Views.{date-of};
 use crate::date::Date;
 use crate::months::month_length;
@@ -23,6 +23,27 @@ pub fn first_day(year: u8) -> u32
     DAYS_OF_A_COMMON_YEAR * year + (year + 3) / 4
 }
 
+// The year of a day: four years have 1461 days, the first of them 366.
+fn year_of_day(day: u32) -> u8
+    requires { ⌜ day < 73050 ⌝ }
+    ensures { λ r. ⌜ r ≡ year-of-day day ⌝ }
+{
+    (4 * day / DAYS_OF_FOUR_YEARS) as u8
+}
+
+// The days of a year before a month.
+fn days_before(year: u8, month: u8) -> u16
+    requires { ⌜ 1 ≤ month ⌝ ∗ ⌜ month ≤ 12 ⌝ }
+    ensures value { λ r. ⌜ r ≡ start (month-lengths (leap year)) (month - 1) ⌝ }
+    ensures bound { λ r. ⌜ r ≤ 366 ⌝ }
+{
+    let mut days = 0;
+    for earlier in 1..month {
+        days += month_length(year, earlier) as u16;
+    }
+    days
+}
+
 impl Date {
     // None where there is no such date.
     pub fn new(year: u8, month: u8, day: u8) -> Option<Date>
@@ -35,7 +56,7 @@ impl Date {
     }
 
     // The first of January.
-    pub fn new_year(year: u8) -> Date
+    fn new_year(year: u8) -> Date
         ensures { λ r. ⌜ date-of r ≡ date year 1 1 ⌝ }
     {
         Date {
@@ -74,7 +95,7 @@ impl Date {
         requires { ⌜ day < 73050 ⌝ }
         ensures { λ r. ⌜ date-of r ≡ date-of-day day ⌝ }
     {
-        let year = (4 * day / DAYS_OF_FOUR_YEARS) as u8;
+        let year = year_of_day(day);
         Date::in_year(year, (day - first_day(year)) as u16)
     }
 
@@ -82,11 +103,7 @@ impl Date {
     pub fn day_number(self) -> u32
         ensures { λ r. ⌜ r ≡ day-number (date-of self) ⌝ }
     {
-        let mut number = first_day(self.year);
-        for month in 1..self.month {
-            number += month_length(self.year, month) as u32;
-        }
-        number + (self.day - 1) as u32
+        first_day(self.year) + days_before(self.year, self.month) as u32 + (self.day - 1) as u32
     }
 
     // The date after this one, round a number of years.

@@ -21,7 +21,8 @@ pub fn month_length(year: u8, month: u8) -> u8
     ensures { λ r. ⌜ r ≡ month-length year month ⌝ }
 {
     if month == FEBRUARY && is_leap(year) {
-        return LEAP_FEBRUARY_LENGTH;
+        LEAP_FEBRUARY_LENGTH
+    } else {
+        MONTH_LENGTHS[month as usize - 1]
     }
-    MONTH_LENGTHS[month as usize - 1]
 }

@@ -54,7 +54,7 @@ module _ (c : Chart) (mode : HourMode) (s : CoreState) where
   acts-read at true = (refl, λ whole cell byte f. one-is at cell byte (eqb at cell) refl f)
   acts-read at false = λ _. refl
 
-  row-is : (cell byte : ℕ) (inside : Bool) → ltb cell (c .count) ≡ inside → length (s .map .cells) ≡ c .count → cond inside (Some (getD (registers s) cell 0)) None ≡ Some byte → byte ≡ getD (s .map .cells) cell 0
+  pub row-is : (cell byte : ℕ) (inside : Bool) → ltb cell (c .count) ≡ inside → length (s .map .cells) ≡ c .count → cond inside (Some (getD (registers s) cell 0)) None ≡ Some byte → byte ≡ getD (s .map .cells) cell 0
   row-is cell byte true e whole f =
       let less = ltb-true _ _ e in
       let here : byte ≡ getD (registers s) cell 0 = cc in
@@ -69,7 +69,7 @@ module _ (c : Chart) (mode : HourMode) (s : CoreState) where
   acts-write cell byte true = tt
   acts-write cell byte false = λ _. refl
 
-  acts-mode : (to : HourMode) (same : Bool) → same-mode mode to ≡ same → Acts c mode (cond same Nothing Wrote) s (set-core-mode s to)
+  pub acts-mode : (to : HourMode) (same : Bool) → same-mode mode to ≡ same → Acts c mode (cond same Nothing Wrote) s (set-core-mode s to)
   acts-mode to true e = λ stands. ap (λ (x : HourMode). with-map s (map-state (s .map .cells) x)) (sym (stands ∙ modes-agree mode to e))
   acts-mode to false e = tt
 

@@ -172,10 +172,10 @@ module _ (m : Machine) (c : Chart) (law : Lawful c) (start : m .State) (new : Ne
       }
 
 -- the law for every list of calls on a machine that is true to its sights
-pub the-law : (m : Machine) (c : Chart) → Lawful c → (start : m .State) → ((mode : HourMode) → TrueToSights m c mode start) → (calls : List (m .Call)) → KeepsTime m c start calls
+pub the-law : (m : Machine) (c : Chart) → Lawful c → (start : m .State) → ((new : NewlyMade c (m .core start)) → TrueToSights m c (new .map .mode) start) → (calls : List (m .Call)) → KeepsTime m c start calls
 the-law m c law start true-to calls new quiet short later log cut =
     let mode : HourMode = new .map .mode in
     let heard = truly-with m mode start calls [] tt in
-    keeps-time m c law start new (true-to mode) log (truly-earlier m mode start later log (subst (Truly m mode start) cut heard))
+    keeps-time m c law start new (true-to new) log (truly-earlier m mode start later log (subst (Truly m mode start) cut heard))
     (all-earlier m mode start (λ x. is-write x ≡ false) later log (subst (Undisturbed m mode) cut quiet))
     (short-earlier m mode start later log (subst (ShortStretches m mode) cut short))

@@ -14,7 +14,7 @@ use register_map::map::RegisterMap;
 use std::alloc::AllocError;
 use std::alloc::Global;
 
-fn accepted_or_refused(result: Result<(), Refusal>) -> CoreAnswer
+pub fn accepted_or_refused(result: Result<(), Refusal>) -> CoreAnswer
     ensures { λ r. ⌜ r ≡ acceptance result ⌝ }
 {
     match result {
@@ -23,7 +23,7 @@ fn accepted_or_refused(result: Result<(), Refusal>) -> CoreAnswer
     }
 }
 
-fn byte_or_refused(result: Result<u8, Refusal>) -> CoreAnswer
+pub fn byte_or_refused(result: Result<u8, Refusal>) -> CoreAnswer
     ensures { λ r. ⌜ r ≡ byte-read result ⌝ }
 {
     match result {

@@ -1,14 +1,12 @@
 use native.Mathlib.Omega.{arith}
 use borrow.Author.Needs.{needs}
-use Prim.Native.Nat.{_-_}
-use Rattle.calendar.specs.Months.{leap}
-use Rattle.calendar.proofs.MonthLaws.{usual}
+use Rattle.calendar.proofs.MonthLaws.{day-at-most}
 use Rattle.byte_map.specs.Cells.{row}
 use Rattle.byte_map.proofs.cells.row.Needs as need
 
 pub number-cell-requires-3 : need.number-cell-requires-3
 number-cell-requires-3 c κs =
-    omega (arith, usual (leap (c .args .reading .date .year)) (c .args .reading .date .month - 1) (omega arith))
+    let day = day-at-most (c .args .reading .date .year) (c .args .reading .date .month) (c .args .reading .date .day) (omega arith) (omega arith) (c .args .reading .date .«to_last») in omega arith
 
 pub returns : need.returns
 unfolding row

@@ -15,7 +15,7 @@ use Rattle.timekeeping.proofs.Outcomes.{outcome-none, outcome-more}
 use Rattle.timekeeping.proofs.work.work_calls.Needs as need
 
 pub returns-in-Break-answers : need.returns-in-Break-answers
-returns-in-Break-answers g c = record { answers = cases-from-err _ _ _ (c .from-residual .ensures .0) (λ _. refl); law = the-law (core-machine (g .M·RegisterMap .chart)) (g .M·RegisterMap .chart) (g .M·RegisterMap·met .lawful) _ (core-true (g .M·RegisterMap .chart) _) _ }
+returns-in-Break-answers g c = record { answers = cases-from-err _ _ _ (c .from-residual .ensures .0) (λ _. refl); law = the-law (core-machine (g .M·RegisterMap .chart)) (g .M·RegisterMap .chart) (g .M·RegisterMap·met .lawful) _ (λ new. core-true (g .M·RegisterMap .chart) _ (new .map .mode)) _ }
 
 pub loop-call-holds : need.loop-call-holds
 loop-call-holds g c =
@@ -36,5 +36,5 @@ pub returns : need.returns
 returns g c = record {
   answers =
       ap (outcome (core-machine (g .M·RegisterMap .chart)) (meant (g .M·RegisterMap) (c .args .core .now))) (sym (take-all _ _ (c .loop-call-test .left))) ∙ c .loop-call .inv .3;
-  law = the-law (core-machine (g .M·RegisterMap .chart)) (g .M·RegisterMap .chart) (g .M·RegisterMap·met .lawful) _ (core-true (g .M·RegisterMap .chart) _) _;
+  law = the-law (core-machine (g .M·RegisterMap .chart)) (g .M·RegisterMap .chart) (g .M·RegisterMap·met .lawful) _ (λ new. core-true (g .M·RegisterMap .chart) _ (new .map .mode)) _;
 }

@@ -3,7 +3,7 @@ use native.Mathlib.Omega.{arith}
 use Rattle.calendar.specs.Months.{leap, month-lengths}
 use Rattle.calendar.specs.Dates.{date-in-year}
 use Rattle.calendar.proofs.RunLaws.{start-none}
-use Rattle.calendar.proofs.MonthLaws.{usual, month-more, in-december}
+use Rattle.calendar.proofs.MonthLaws.{month-more, in-december}
 use Rattle.calendar.proofs.DateLaws.{in-month}
 use Rattle.calendar.proofs.date.Date.in_year.Needs as need
 
@@ -21,10 +21,10 @@ loop-month-again c =
 
 -- past the loop what is left falls in December
 pub cast-result-2 : need.cast-result-2
-cast-result-2 c = omega (arith, usual (leap (c .args .year)) 11 (omega arith), in-december (leap (c .args .year)) (c .loop-month .month) (c .loop-month .rest) (c .args .day) (omega arith) (omega arith) (c .pre))
+cast-result-2 c = omega (arith, in-december (leap (c .args .year)) (c .loop-month .month) (c .loop-month .rest) (c .args .day) (omega arith) (omega arith) (c .pre))
 
 pub add-result-2 : need.add-result-2
-add-result-2 c = omega (arith, usual (leap (c .args .year)) 11 (omega arith), in-december (leap (c .args .year)) (c .loop-month .month) (c .loop-month .rest) (c .args .day) (omega arith) (omega arith) (c .pre))
+add-result-2 c = omega (arith, in-december (leap (c .args .year)) (c .loop-month .month) (c .loop-month .rest) (c .args .day) (omega arith) (omega arith) (c .pre))
 
 pub ghost-result-2 : need.ghost-result-2
 ghost-result-2 c =

@@ -1,0 +1,3 @@
+// The register map of thirteen decimal digits, over one century.
+mod cells;
+pub mod map;
