@@ -7,6 +7,7 @@ ghost use Rattle.msm62x42.specs.Part.{seen};
 ghost use Rattle.timekeeping.specs.Law.{KeepsTime};
 ghost use Rattle.timekeeping.specs.Logs.{outcome};
 ghost use Rattle.msm62x42_runs.specs.Calls.{registers-seen, do-call, part-machine};
+ghost use Rattle.msm62x42_runs.specs.Start.{LoadedIsNew};
 use crate::call::PartCall;
 use msm62x42::part::Msm62x42;
 use std::alloc::AllocError;
@@ -68,4 +69,11 @@ pub fn work_calls(
         answers.push_reserved(answer);
     }
     Ok(answers)
+}
+
+// Says that the law begins where an accepted load leaves a part.
+pub fn loaded_is_new() -> bool
+    ensures { λ _. ⌜ LoadedIsNew ⌝ }
+{
+    true
 }

@@ -3,6 +3,7 @@ pub mod Drift
 pub mod Examples
 pub mod Heard
 pub mod Keeping
+pub mod Loads
 pub mod Moments
 pub mod Outcomes
 pub mod ShortLogs
