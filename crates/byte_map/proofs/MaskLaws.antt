@@ -1,7 +1,6 @@
 -- A written row has no unused bit.
 use mathlib.Core.Path.{_≡_, refl}
 use mathlib.Core.Bool.{Bool, true, _&&_}
-use mathlib.Core.List.{List}
 use Prim.Native.Nat.{ℕ, zero, suc, _+_, _*_, _/_, _%_, _<_}
 use native.Mathlib.Omega.{arith}
 use lib.Bits.{bitAnd}
@@ -13,7 +12,7 @@ use Rattle.calendar.specs.Fields.{Fields, LawfulFields}
 use Rattle.calendar.proofs.DigitLaws.{hour-small}
 use Rattle.calendar.proofs.MonthLaws.{day-at-most}
 use Rattle.calendar.proofs.CellLaws.{low-bits, masked-at}
-use Rattle.byte_map.specs.Cells.{used-bits, number-cell, hour-cell, month-cell, row}
+use Rattle.byte_map.specs.Cells.{used-bits, number-cell, hour-cell, row}
 
 -- the century bit and a number below 32 are kept by the mask of the month cell, at each of them
 kept : ℕ → ℕ → Bool

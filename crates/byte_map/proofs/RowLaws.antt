@@ -1,13 +1,11 @@
 -- The fields and the row that they are written in are each other's inverse.
 use mathlib.Core.Path.{_≡_, refl, sym, ap, subst, _∙_}
-use mathlib.Core.Bool.{Bool, true, false, cond}
-use mathlib.Core.List.{List, [], _∷_, map}
-use Prim.Native.Nat.{ℕ, zero, suc, _+_, _-_, _*_, _/_, _%_, _<_, _≤_}
+use mathlib.Core.List.{List, map}
+use Prim.Native.Nat.{ℕ, _/_, _%_, _<_}
 use native.Mathlib.Omega.{arith}
 use lib.Dec.{eqb, ltb}
 use lib.ListN.{length, getD, replicate}
 use Rattle.std.specs.Iters.{counting}
-use Rattle.std.specs.declared.option.Option.{Option}
 use Rattle.std.specs.declared.option.Option.the-variants.{Some, None}
 use Rattle.std.proofs.shelf.Tests.{cond-true, lt-ltb, ltb-true, eqb-true}
 use Rattle.std.proofs.shelf.Counted.{fill-by-all}
@@ -18,7 +16,7 @@ use Rattle.calendar.specs.Dates.{CivilDate, LawfulDate}
 use Rattle.calendar.specs.Times.{ClockTime, LawfulTime}
 use Rattle.calendar.specs.Moments.{civil}
 use Rattle.calendar.specs.Digits.{digits-of, packed, unpacked, hour-digits}
-use Rattle.calendar.specs.Spelling.{then, time-spelt, date-spelt}
+use Rattle.calendar.specs.Spelling.{then, date-spelt}
 use Rattle.calendar.specs.Fields.{Fields, fields, LawfulFields, Spells}
 use Rattle.calendar.proofs.DigitLaws.{passes, admits, hour-small, unpacked-packed, packed-unpacked}
 use Rattle.calendar.proofs.SpellingLaws.{first-read, time-spelt-as, SpellsTime, spells-time, date-spelt-as, SpellsDate, spells-date}

@@ -1,10 +1,10 @@
 -- The cells that change make the row of the fields a second later.
-use mathlib.Core.Path.{_≡_, refl, sym, ap, ap₂, _∙_}
+use mathlib.Core.Path.{_≡_, sym, ap, ap₂, _∙_}
 use mathlib.Core.List.{List}
-use Prim.Native.Nat.{ℕ, _+_, _*_, _/_, _%_, _<_}
+use Prim.Native.Nat.{ℕ, _%_}
 use native.Mathlib.Omega.{arith}
 use lib.ListN.{set}
-use Rattle.std.specs.declared.option.Option.the-variants.{Some, None}
+use Rattle.std.specs.declared.option.Option.the-variants.{Some}
 use Rattle.register_map.specs.Chart.{map-state, weekday-after, advanced}
 use Rattle.register_map.specs.declared.hour_mode.HourMode.{HourMode}
 use Rattle.calendar.specs.Dates.{CivilDate, next-date}
@@ -12,12 +12,9 @@ use Rattle.calendar.specs.Times.{ClockTime, time, second-of-day, next-time}
 use Rattle.calendar.specs.Moments.{civil}
 use Rattle.calendar.specs.Fields.{Fields, fields, next-fields}
 use Rattle.calendar.proofs.TimeLaws.{kept-minute, kept-hour}
-use Rattle.calendar.proofs.FieldLaws.{same-day, new-day, advanced-read, advanced-unread}
+use Rattle.calendar.proofs.FieldLaws.{same-day, new-day, advanced-read}
 use Rattle.byte_map.specs.Cells.{used-bits, number-cell, hour-cell, month-cell, row, row-read, byte-chart}
 use Rattle.byte_map.proofs.RowLaws.{read-is-row, spells}
-
-pub stands : (m : HourMode) (cells : List ℕ) → row-read m cells ≡ None → map-state cells m ≡ advanced byte-chart (map-state cells m)
-stands m cells r = sym (advanced-unread 200 7 used-bits row row-read spells m cells r)
 
 -- cells and fields that they spell, and the time a second later
 module _ (m : HourMode) (cells : List ℕ) (f : Fields) (r : row-read m cells ≡ Some f) (u : ClockTime) (e : u ≡ next-time (f .civil .at-time)) where

@@ -52,6 +52,7 @@ date-in days months years =
 abbrev pub time-in : HourMode → ℕ → ℕ → ℕ → Option ClockTime
 time-in mode hours minutes seconds = time-spelt mode 2 (unpacked hours) (unpacked minutes) (unpacked seconds)
 
+-- The weekday in its cell, if there is one.
 abbrev pub weekday-in : ℕ → Option ℕ
 weekday-in cell = cond (ltb cell 7) (Some cell) None
 

@@ -6,7 +6,6 @@ ghost use Rattle.std.specs.Options.{mapped};
 ghost use Rattle.std.specs.declared.option.Option.the-variants.{Some};
 ghost use Rattle.register_map.specs.Chart.{advanced, map-state, weekday-after};
 ghost use Rattle.register_map.specs.declared.hour_mode.HourMode.the-variants.{Twelve};
-ghost use Rattle.calendar.specs.Fields.{shown-of};
 ghost use Rattle.calendar.specs.Views.{date-of, time-of, fields-read};
 ghost use Rattle.byte_map.specs.Cells.{number-cell, month-cell, time-in, date-in, row-read, byte-chart};
 use crate::cells::AFTERNOON;
@@ -25,7 +24,7 @@ use crate::cells::month_cell;
 use crate::cells::number_cell;
 use calendar::date::Date;
 use calendar::digits::Digits;
-use calendar::moments::moment_of_day;
+use calendar::moments::moment_at;
 use calendar::reading::Reading;
 use calendar::time_of_day::TimeOfDay;
 use register_map::hour_mode::HourMode;
@@ -96,7 +95,7 @@ impl ByteMap {
         ensures { λ r. ⌜ mapped (λ p. record { moment = p .0; weekday = p .1 }) r ≡ byte-chart .reads (now (self .entry) .mode) (now (self .entry) .cells) ⌝ }
     {
         let reading = self.reading()?;
-        Some((moment_of_day(reading.date, reading.time), reading.weekday))
+        Some((moment_at(reading.date, reading.time), reading.weekday))
     }
 
     // Writes the date of a new day and steps the weekday.
@@ -144,7 +143,7 @@ pub impl RegisterMap for ByteMap as ByteMapRegisters {
 
     ghost mode = { λ m. m .mode };
 
-    ghost shown = { λ m. mapped shown-of (row-read (m .mode) (m .cells)) };
+    ghost shown = { λ m. byte-chart .reads (m .mode) (m .cells) };
 
     fn cell_count() -> usize {
         Self::CELLS

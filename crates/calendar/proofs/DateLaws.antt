@@ -1,16 +1,16 @@
 -- Dates and day numbers are each other's inverse, and the date of the next day is the next date.
-use mathlib.Core.Path.{_≡_, refl, sym, ap, subst, _∙_}
+use mathlib.Core.Path.{_≡_, refl, sym, ap, _∙_}
 use mathlib.Core.Bool.{Bool, true, false}
-use Prim.Native.Nat.{ℕ, zero, suc, _+_, _-_, _*_, _/_, _%_, _<_, _≤_}
+use Prim.Native.Nat.{ℕ, _+_, _-_, _%_, _<_, _≤_}
 use native.Mathlib.Omega.{arith}
 use native.Mathlib.Nat.{mod-eq-of-lt, mod-self}
 use lib.Dec.{ltb}
 use lib.ListN.{length, getD}
-use Rattle.std.proofs.shelf.Tests.{lt-ltb, le-ltb, ltb-true, ltb-false}
-use Rattle.calendar.specs.Runs.{Place, placed, place, start}
+use Rattle.std.proofs.shelf.Tests.{ltb-true, ltb-false}
+use Rattle.calendar.specs.Runs.{place, start}
 use Rattle.calendar.specs.Months.{leap, month-lengths, month-length}
-use Rattle.calendar.specs.Dates.{CivilDate, date, LawfulDate, year-start, day-number, year-of-day, date-at, date-in-year, date-of-day, new-year, next-month, next-day, next-date}
-use Rattle.calendar.proofs.RunLaws.{start-none, place-of-start, Falls, falls}
+use Rattle.calendar.specs.Dates.{CivilDate, date, LawfulDate, year-start, day-number, year-of-day, date-in-year, date-of-day, new-year, next-month, next-day, next-date}
+use Rattle.calendar.proofs.RunLaws.{start-none, place-of-start, falls}
 use Rattle.calendar.proofs.MonthLaws.{twelve, listed, usual-length, whole-year, before-year-ends, month-ends}
 
 -- the day of the year, from 0

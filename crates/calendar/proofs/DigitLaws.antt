@@ -1,5 +1,5 @@
 -- Digits and numbers, and digits and hours, are each other's inverse.
-use mathlib.Core.Path.{_≡_, refl, sym, ap, _∙_}
+use mathlib.Core.Path.{_≡_, refl}
 use mathlib.Core.Bool.{Bool, true, false, cond, _&&_}
 use mathlib.Core.Logic.{⊎-elim}
 use Prim.Native.Nat.{ℕ, _+_, _-_, _*_, _/_, _%_, _<_, _≤_}
@@ -7,7 +7,7 @@ use native.Mathlib.Omega.{arith}
 use lib.Dec.{ltb, leb}
 use Rattle.std.specs.declared.option.Option.{Option}
 use Rattle.std.specs.declared.option.Option.the-variants.{Some, None}
-use Rattle.std.proofs.shelf.Tests.{lt-ltb, le-ltb, le-leb, ltb-true, ltb-false, leb-true, and-parts, and-from, cases-lt}
+use Rattle.std.proofs.shelf.Tests.{lt-ltb, le-ltb, le-leb, ltb-true, leb-true, and-parts, and-from, cases-lt}
 use Rattle.register_map.specs.declared.hour_mode.HourMode.{HourMode}
 use Rattle.register_map.specs.declared.hour_mode.HourMode.the-variants.{Twelve, TwentyFour}
 use Rattle.calendar.specs.declared.digits.Digits.{Digits}

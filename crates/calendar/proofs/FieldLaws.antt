@@ -1,22 +1,20 @@
 -- A map that writes fields and reads them back keeps the rules of a register map.
 use mathlib.Core.Path.{_≡_, refl, sym, ap, subst, _∙_}
-use mathlib.Core.Bool.{Bool, true, false, cond}
 use mathlib.Core.List.{List}
-use Prim.Native.Nat.{ℕ, _+_, _-_, _*_, _/_, _%_, _^_, _<_, _≤_}
+use Prim.Native.Nat.{ℕ, _+_, _%_}
 use native.Mathlib.Omega.{arith}
-use lib.Dec.{eqb}
 use Rattle.std.specs.declared.option.Option.{Option}
 use Rattle.std.specs.declared.option.Option.the-variants.{Some, None}
 use Rattle.std.specs.Options.{mapped}
 use Rattle.std.proofs.shelf.Tests.{eq-eqb, ne-eqb}
-use Rattle.register_map.specs.Chart.{Chart, Shown, Showable, Lawful, MapState, map-state, weekday-after, second-of, second-after, showing, advanced-from, advanced}
+use Rattle.register_map.specs.Chart.{Chart, Shown, Showable, Lawful, map-state, weekday-after, second-of, second-after, advanced-from, advanced}
 use Rattle.register_map.specs.declared.hour_mode.HourMode.{HourMode}
 use Rattle.calendar.specs.Dates.{next-date}
 use Rattle.calendar.specs.Times.{second-of-day, next-time}
-use Rattle.calendar.specs.Moments.{Civil, civil, LawfulCivil, moment-of, civil-of, cycle-of, next-civil}
+use Rattle.calendar.specs.Moments.{civil, moment-of, civil-of, cycle-of, next-civil}
 use Rattle.calendar.specs.Fields.{Fields, fields, LawfulFields, shown-of, fields-of, next-fields, chart-of, Spells}
-use Rattle.calendar.proofs.TimeLaws.{within-day, ticks}
-use Rattle.calendar.proofs.MomentLaws.{civil-of-moment, moment-of-civil, lawful-civil, year-in-cycle, moment-in-cycle, Advances, advances}
+use Rattle.calendar.proofs.TimeLaws.{ticks}
+use Rattle.calendar.proofs.MomentLaws.{civil-of-moment, moment-of-civil, lawful-civil, year-in-cycle, moment-in-cycle, advances}
 
 pub fields-of-shown : (years : ℕ) (f : Fields) → LawfulFields years f → fields-of (shown-of f) ≡ f
 fields-of-shown years f ok = rw (civil-of-moment (f .civil) (ok .a-civil))
@@ -95,7 +93,3 @@ module _ (years count : ℕ) (used : List ℕ) (written : HourMode → Fields �
   advanced-read m cells f r =
       ap (advanced-from (chart-of years count used written read) (map-state cells m)) (ap (mapped shown-of) r)
       ∙ ap (λ g. map-state (written m g) m) (steps years f (spells .read-is-written m cells f r .1) (chart-of years count used written read) refl)
-
-  -- a map that reads none stays as it is
-  pub advanced-unread : (m : HourMode) (cells : List ℕ) → read m cells ≡ None → advanced (chart-of years count used written read) (map-state cells m) ≡ map-state cells m
-  advanced-unread m cells r = ap (advanced-from (chart-of years count used written read) (map-state cells m)) (ap (mapped shown-of) r)

@@ -1,16 +1,16 @@
 -- Moments and civil fields are each other's inverse, and a second later is the next moment of the cycle.
-use mathlib.Core.Path.{_≡_, refl, sym, ap, subst, _∙_}
+use mathlib.Core.Path.{_≡_, refl, sym, _∙_}
 use mathlib.Core.Bool.{Bool, true, false}
-use Prim.Native.Nat.{ℕ, _+_, _-_, _*_, _/_, _%_, _<_, _≤_}
+use Prim.Native.Nat.{ℕ, _+_, _*_, _/_, _%_, _<_}
 use native.Mathlib.Omega.{arith}
 use native.Mathlib.Nat.{mod-eq-of-lt, mod-self}
 use mathlib.Core.Logic.{⊎-elim}
 use lib.Dec.{eqb}
 use Rattle.std.proofs.shelf.Tests.{eqb-true, eqb-false, cases-lt}
-use Rattle.calendar.specs.Dates.{CivilDate, LawfulDate, year-start, day-number, date-in-year, date-of-day, next-date}
-use Rattle.calendar.specs.Times.{ClockTime, LawfulTime, second-of-day, time-of-second, next-time}
+use Rattle.calendar.specs.Dates.{year-start, day-number, date-in-year}
+use Rattle.calendar.specs.Times.{second-of-day, next-time}
 use Rattle.calendar.specs.Moments.{Civil, civil, LawfulCivil, moment-of, civil-of, cycle-of, day-after, next-civil}
-use Rattle.calendar.proofs.DateLaws.{date-of-number, Dated, dated, before, Follows, follows}
+use Rattle.calendar.proofs.DateLaws.{date-of-number, dated, before, follows}
 use Rattle.calendar.proofs.TimeLaws.{within-day, time-of-its-second, second-of-its-time, timed, Ticks, ticks}
 
 -- the fields of the moment of lawful fields

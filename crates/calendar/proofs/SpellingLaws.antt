@@ -1,7 +1,7 @@
 -- Dates and times of day, and the digits that spell them, are each other's inverse.
 use mathlib.Core.Path.{_≡_, refl, sym, ap, ap₂, subst, _∙_}
-use mathlib.Core.Bool.{Bool, true, false, cond, _&&_}
-use Prim.Native.Nat.{ℕ, _+_, _-_, _*_, _/_, _%_, _<_, _≤_}
+use mathlib.Core.Bool.{_&&_}
+use Prim.Native.Nat.{ℕ, _+_, _*_, _/_, _%_, _≤_}
 use native.Mathlib.Omega.{arith}
 use lib.Dec.{ltb, leb}
 use Rattle.std.specs.declared.option.Option.{Option}
@@ -9,7 +9,7 @@ use Rattle.std.specs.declared.option.Option.the-variants.{Some, None}
 use Rattle.std.proofs.shelf.Tests.{lt-ltb, le-leb, ltb-true, leb-true, and-parts, and-from}
 use Rattle.register_map.specs.declared.hour_mode.HourMode.{HourMode}
 use Rattle.calendar.specs.declared.digits.Digits.{Digits}
-use Rattle.calendar.specs.Months.{leap, month-length}
+use Rattle.calendar.specs.Months.{month-length}
 use Rattle.calendar.specs.Dates.{CivilDate, date, LawfulDate, existing-date}
 use Rattle.calendar.specs.Times.{ClockTime, time, LawfulTime, existing-time}
 use Rattle.calendar.specs.Digits.{digits-of, number-of, hour-digits, hour-of}

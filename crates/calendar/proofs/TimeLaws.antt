@@ -1,10 +1,10 @@
 -- Times of day and seconds of the day are each other's inverse, and a second later is the next time.
 use mathlib.Core.Path.{_≡_, refl, sym, ap, subst, _∙_}
 use mathlib.Core.Bool.{Bool, true, false}
-use Prim.Native.Nat.{ℕ, _+_, _-_, _*_, _/_, _%_, _<_, _≤_}
+use Prim.Native.Nat.{ℕ, _+_, _/_, _%_, _<_}
 use native.Mathlib.Omega.{arith}
 use lib.Dec.{ltb}
-use Rattle.std.proofs.shelf.Tests.{lt-ltb, le-ltb, ltb-true, ltb-false}
+use Rattle.std.proofs.shelf.Tests.{ltb-true, ltb-false}
 use Rattle.calendar.specs.Times.{ClockTime, time, LawfulTime, second-of-day, time-of-second, next-hour, next-minute, next-second, next-time}
 
 pub within-day : (t : ClockTime) → LawfulTime t → second-of-day t < 86400

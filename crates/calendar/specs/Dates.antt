@@ -1,17 +1,19 @@
 -- Dates and day numbers. Years and days count from 0, months and the days of a month from 1.
 use mathlib.Core.Bool.{Bool, true, false, cond, _&&_}
-use Prim.Native.Nat.{ℕ, _+_, _-_, _*_, _/_, _<_, _≤_}
+use Prim.Native.Nat.{ℕ, _+_, _-_, _*_, _/_, _≤_}
 use lib.Dec.{ltb, leb}
 use Rattle.std.specs.declared.option.Option.{Option}
 use Rattle.std.specs.declared.option.Option.the-variants.{Some, None}
 use Rattle.calendar.specs.Runs.{Place, place, start}
 use Rattle.calendar.specs.Months.{leap, month-lengths, month-length}
 
+-- A year, a month and a day, whether or not there is such a date.
 pub record CivilDate : Type 0 where
   pub year : ℕ
   pub month : ℕ
   pub day : ℕ
 
+-- The three together.
 abbrev pub date : ℕ → ℕ → ℕ → CivilDate
 date year month day = record { year = year; month = month; day = day }
 
@@ -39,6 +41,7 @@ day-number d = year-start (d .year) + start (month-lengths (leap (d .year))) (d 
 abbrev pub year-of-day : ℕ → ℕ
 year-of-day day = 4 * day / 1461
 
+-- The date at a place among the months of a year.
 abbrev pub date-at : ℕ → Place → CivilDate
 date-at year p = date year (p .run + 1) (p .past + 1)
 
@@ -55,10 +58,12 @@ abbrev pub new-year : Bool → ℕ → CivilDate
 new-year true year = date (year + 1) 1 1
 new-year false year = date 0 1 1
 
+-- The first of the next month; December ends the year.
 abbrev pub next-month : Bool → ℕ → CivilDate → CivilDate
 next-month true years d = date (d .year) (d .month + 1) 1
 next-month false years d = new-year (ltb (d .year + 1) years) (d .year)
 
+-- The next day of the month, if there is one.
 abbrev pub next-day : Bool → ℕ → CivilDate → CivilDate
 next-day true years d = date (d .year) (d .month) (d .day + 1)
 next-day false years d = next-month (ltb (d .month) 12) years d

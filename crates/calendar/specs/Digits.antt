@@ -8,9 +8,11 @@ use Rattle.register_map.specs.declared.hour_mode.HourMode.{HourMode}
 use Rattle.register_map.specs.declared.hour_mode.HourMode.the-variants.{Twelve, TwentyFour}
 use Rattle.calendar.specs.declared.digits.Digits.{Digits}
 
+-- Two digits together.
 abbrev pub digits : ℕ → ℕ → Digits
 digits tens units = record { tens = tens; units = units }
 
+-- The digits of a number.
 abbrev pub digits-of : ℕ → Digits
 digits-of number = digits (number / 10) (number % 10)
 
@@ -22,6 +24,7 @@ number-of d = cond (ltb (d .tens) 10 && ltb (d .units) 10) (Some (10 * d .tens +
 abbrev pub packed : Digits → ℕ
 packed d = 16 * d .tens + d .units
 
+-- The two digits of a cell.
 abbrev pub unpacked : ℕ → Digits
 unpacked cell = digits (cell / 16) (cell % 16)
 

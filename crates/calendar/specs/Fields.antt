@@ -7,17 +7,19 @@ use lib.Bits.{bitAnd}
 use lib.Dec.{eqb}
 use lib.ListN.{length, getD}
 use Rattle.std.specs.declared.option.Option.{Option}
-use Rattle.std.specs.declared.option.Option.the-variants.{Some, None}
+use Rattle.std.specs.declared.option.Option.the-variants.{Some}
 use Rattle.std.specs.Options.{mapped}
 use Rattle.register_map.specs.Chart.{Chart, Shown, weekday-after}
 use Rattle.register_map.specs.declared.hour_mode.HourMode.{HourMode}
 use Rattle.calendar.specs.Times.{second-of-day, next-time}
 use Rattle.calendar.specs.Moments.{Civil, LawfulCivil, moment-of, civil-of, cycle-of, next-civil}
 
+-- A date and time with a weekday.
 pub record Fields : Type 0 where
   pub civil : Civil
   pub weekday : ℕ
 
+-- The two together.
 abbrev pub fields : Civil → ℕ → Fields
 fields civil weekday = record { civil = civil; weekday = weekday }
 

@@ -7,3 +7,4 @@ pub mod Digits
 pub mod Fields
 pub mod Spelling
 pub mod Views
+pub mod Laws

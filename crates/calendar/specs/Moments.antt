@@ -10,9 +10,11 @@ pub record Civil : Type 0 where
   pub on : CivilDate
   pub at-time : ClockTime
 
+-- The two together.
 abbrev pub civil : CivilDate → ClockTime → Civil
 civil on at-time = record { on = on; at-time = at-time }
 
+-- A date and time that exist.
 pub record LawfulCivil (f : Civil) : Type 0 where
   pub a-date : LawfulDate (f .on)
   pub a-time : LawfulTime (f .at-time)

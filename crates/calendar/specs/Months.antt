@@ -18,6 +18,7 @@ common-lengths = 31 ∷ 28 ∷ 31 ∷ 30 ∷ 31 ∷ 30 ∷ 31 ∷ 31 ∷ 30 ∷ 
 abbrev pub length-when : Bool → ℕ → ℕ
 length-when leap month = cond (eqb month 2 && leap) 29 (getD common-lengths (month - 1) 0)
 
+-- The days of a month of a year.
 abbrev pub month-length : ℕ → ℕ → ℕ
 month-length year month = length-when (leap year) month
 

@@ -5,11 +5,13 @@ use lib.Dec.{ltb}
 use Rattle.std.specs.declared.option.Option.{Option}
 use Rattle.std.specs.declared.option.Option.the-variants.{Some, None}
 
+-- An hour, a minute and a second, whether or not there is such a time of day.
 pub record ClockTime : Type 0 where
   pub hour : ℕ
   pub minute : ℕ
   pub second : ℕ
 
+-- The three together.
 abbrev pub time : ℕ → ℕ → ℕ → ClockTime
 time hour minute second = record { hour = hour; minute = minute; second = second }
 
@@ -32,14 +34,17 @@ second-of-day t = 3600 * t .hour + 60 * t .minute + t .second
 abbrev pub time-of-second : ℕ → ClockTime
 time-of-second second = time (second / 3600) (second / 60 % 60) (second % 60)
 
+-- The next hour of the day, else midnight.
 abbrev pub next-hour : Bool → ClockTime → ClockTime
 next-hour true t = time (t .hour + 1) 0 0
 next-hour false t = time 0 0 0
 
+-- The next minute of the hour, if there is one.
 abbrev pub next-minute : Bool → ClockTime → ClockTime
 next-minute true t = time (t .hour) (t .minute + 1) 0
 next-minute false t = next-hour (ltb (t .hour) 23) t
 
+-- The next second of the minute, if there is one.
 abbrev pub next-second : Bool → ClockTime → ClockTime
 next-second true t = time (t .hour) (t .minute) (t .second + 1)
 next-second false t = next-minute (ltb (t .minute) 59) t

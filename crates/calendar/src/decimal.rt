@@ -19,6 +19,7 @@ fn hour_of_half(begin: u8, tens: u8, units: u8) -> Option<u8>
 }
 
 impl Digits {
+    // The two digits of a number below 100.
     pub fn of(number: u8) -> Digits
         ensures { λ r. ⌜ r ≡ digits-of number ⌝ }
     {
@@ -47,6 +48,7 @@ impl Digits {
         16 * self.tens + self.units
     }
 
+    // The two digits in a cell.
     pub fn unpack(cell: u8) -> Digits
         ensures { λ r. ⌜ r ≡ unpacked cell ⌝ }
     {

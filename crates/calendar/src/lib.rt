@@ -3,6 +3,7 @@ pub mod date;
 pub mod dates;
 pub mod decimal;
 pub mod digits;
+pub mod laws;
 pub mod moments;
 pub mod months;
 pub mod reading;

@@ -9,7 +9,7 @@ use crate::time_of_day::TimeOfDay;
 const SECONDS_OF_A_DAY: u64 = 86_400;
 
 // The seconds since 00:00:00 on 1 January of year 0.
-pub fn moment_of_day(on: Date, at: TimeOfDay) -> u64
+pub fn moment_at(on: Date, at: TimeOfDay) -> u64
     ensures { λ r. ⌜ r ≡ moment-of (civil (date-of on) (time-of at)) ⌝ }
 {
     SECONDS_OF_A_DAY * on.day_number() as u64 + at.second_of_day() as u64

@@ -16,6 +16,7 @@ pub fn is_leap(year: u8) -> bool
     year % 4 == 0
 }
 
+// The days of a month, counted from 1. Nothing else looks at the table.
 pub fn month_length(year: u8, month: u8) -> u8
     requires { ⌜ 1 ≤ month ⌝ ∗ ⌜ month ≤ 12 ⌝ }
     ensures { λ r. ⌜ r ≡ month-length year month ⌝ }

@@ -1,13 +1,12 @@
 -- The fields and the row that they are written in are each other's inverse, and a written row has no unused bit.
 use mathlib.Core.Path.{_≡_, refl, sym, ap, subst, _∙_}
-use mathlib.Core.List.{List, [], _∷_, map}
-use Prim.Native.Nat.{ℕ, _+_, _*_, _/_, _%_, _<_, _≤_}
+use mathlib.Core.List.{List, map}
+use Prim.Native.Nat.{ℕ, _/_, _%_, _<_}
 use native.Mathlib.Omega.{arith}
 use lib.Bits.{bitAnd}
 use lib.Dec.{eqb, ltb}
 use lib.ListN.{length, getD, replicate}
 use Rattle.std.specs.Iters.{counting}
-use Rattle.std.specs.declared.option.Option.{Option}
 use Rattle.std.specs.declared.option.Option.the-variants.{Some, None}
 use Rattle.std.proofs.shelf.Tests.{lt-ltb, ltb-true, eqb-true}
 use Rattle.std.proofs.shelf.Counted.{fill-by-all}
@@ -21,7 +20,7 @@ use Rattle.calendar.specs.Fields.{Fields, fields, LawfulFields, Spells}
 use Rattle.calendar.proofs.MonthLaws.{day-at-most}
 use Rattle.calendar.proofs.DigitLaws.{passes, admits, hour-small}
 use Rattle.calendar.proofs.SpellingLaws.{first-read, time-spelt-is, SpellsTime, spells-time, date-spelt-as, SpellsDate, spells-date}
-use Rattle.calendar.proofs.CellLaws.{low-bits, Masked, masked-at, byte-at, same-row}
+use Rattle.calendar.proofs.CellLaws.{low-bits, masked-at, byte-at, same-row}
 use Rattle.calendar.proofs.FieldLaws.{lawful-chart}
 use Rattle.digit_map.specs.Cells.{used-bits, row, digits-in, weekday-in, fields-in, row-read, digit-chart}
 

@@ -1,10 +1,10 @@
 -- The cells that change make the row of the fields a second later.
-use mathlib.Core.Path.{_≡_, refl, sym, ap, ap₂, _∙_}
+use mathlib.Core.Path.{_≡_, sym, ap, ap₂, _∙_}
 use mathlib.Core.List.{List}
-use Prim.Native.Nat.{ℕ, _+_, _*_, _/_, _%_, _<_}
+use Prim.Native.Nat.{ℕ}
 use native.Mathlib.Omega.{arith}
 use lib.ListN.{set}
-use Rattle.std.specs.declared.option.Option.the-variants.{Some, None}
+use Rattle.std.specs.declared.option.Option.the-variants.{Some}
 use Rattle.register_map.specs.Chart.{map-state, weekday-after, advanced}
 use Rattle.register_map.specs.declared.hour_mode.HourMode.{HourMode}
 use Rattle.calendar.specs.Dates.{CivilDate, next-date}
@@ -14,12 +14,9 @@ use Rattle.calendar.specs.declared.digits.Digits.{Digits}
 use Rattle.calendar.specs.Digits.{digits-of, hour-digits}
 use Rattle.calendar.specs.Fields.{Fields, fields, next-fields}
 use Rattle.calendar.proofs.TimeLaws.{kept-minute, kept-hour}
-use Rattle.calendar.proofs.FieldLaws.{same-day, new-day, advanced-read, advanced-unread}
+use Rattle.calendar.proofs.FieldLaws.{same-day, new-day, advanced-read}
 use Rattle.digit_map.specs.Cells.{used-bits, digits-put, row, row-read, digit-chart}
 use Rattle.digit_map.proofs.RowLaws.{read-is-row, spells}
-
-pub stands : (m : HourMode) (cells : List ℕ) → row-read m cells ≡ None → map-state cells m ≡ advanced digit-chart (map-state cells m)
-stands m cells r = sym (advanced-unread 100 13 used-bits row row-read spells m cells r)
 
 -- the cells with a weekday and date written
 abbrev pub dated : ℕ → CivilDate → List ℕ → List ℕ

@@ -41,6 +41,7 @@ digits-in cells cell = digits (getD cells (cell + 1) 0) (getD cells cell 0)
 abbrev pub digits-put : List ℕ → ℕ → Digits → List ℕ
 digits-put cells cell d = set (set cells cell (d .units)) (cell + 1) (d .tens)
 
+-- The weekday in its cell, if there is one.
 abbrev pub weekday-in : ℕ → Option ℕ
 weekday-in cell = cond (ltb cell 7) (Some cell) None
 

@@ -8,7 +8,6 @@ ghost use Rattle.register_map.specs.Chart.{advanced, map-state, weekday-after};
 ghost use Rattle.register_map.specs.declared.hour_mode.HourMode.the-variants.{Twelve};
 ghost use Rattle.calendar.specs.Digits.{digits-of};
 ghost use Rattle.calendar.specs.Spelling.{time-spelt, date-spelt};
-ghost use Rattle.calendar.specs.Fields.{shown-of};
 ghost use Rattle.calendar.specs.Views.{date-of, time-of, fields-read};
 ghost use Rattle.digit_map.specs.Cells.{digits-in, digits-put, row-read, digit-chart};
 use crate::cells::AFTERNOON;
@@ -23,7 +22,7 @@ use crate::cells::YEAR;
 use crate::cells::code;
 use calendar::date::Date;
 use calendar::digits::Digits;
-use calendar::moments::moment_of_day;
+use calendar::moments::moment_at;
 use calendar::reading::Reading;
 use calendar::time_of_day::TimeOfDay;
 use register_map::hour_mode::HourMode;
@@ -113,7 +112,7 @@ impl DigitMap {
         ensures { λ r. ⌜ mapped (λ p. record { moment = p .0; weekday = p .1 }) r ≡ digit-chart .reads (now (self .entry) .mode) (now (self .entry) .cells) ⌝ }
     {
         let reading = self.reading()?;
-        Some((moment_of_day(reading.date, reading.time), reading.weekday))
+        Some((moment_at(reading.date, reading.time), reading.weekday))
     }
 
     // Writes the date of a new day and steps the weekday.
@@ -161,7 +160,7 @@ pub impl RegisterMap for DigitMap as DigitMapRegisters {
 
     ghost mode = { λ m. m .mode };
 
-    ghost shown = { λ m. mapped shown-of (row-read (m .mode) (m .cells)) };
+    ghost shown = { λ m. digit-chart .reads (m .mode) (m .cells) };
 
     fn cell_count() -> usize {
         Self::CELLS

@@ -1,5 +1,4 @@
 use native.Mathlib.Omega.{arith}
-use borrow.Author.Needs.{needs}
 use Rattle.calendar.proofs.MonthLaws.{day-at-most}
 use Rattle.byte_map.specs.Cells.{row}
 use Rattle.byte_map.proofs.cells.row.Needs as need

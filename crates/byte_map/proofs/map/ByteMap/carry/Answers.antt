@@ -1,4 +1,4 @@
-use mathlib.Core.Path.{_≡_, sym, ap, ap₂, _∙_}
+use mathlib.Core.Path.{ap, ap₂, _∙_}
 use native.Mathlib.Omega.{arith}
 use Rattle.register_map.specs.Chart.{map-state}
 use Rattle.calendar.specs.Views.{date-of, time-of, fields-read}

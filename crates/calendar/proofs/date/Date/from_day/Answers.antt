@@ -1,5 +1,4 @@
 use native.Mathlib.Omega.{arith}
-use Rattle.calendar.specs.Dates.{year-of-day}
 use Rattle.calendar.proofs.MonthLaws.{whole-year}
 use Rattle.calendar.proofs.date.Date.from_day.Needs as need
 

@@ -1,0 +1,7 @@
+mod Coding
+mod Cutting
+mod InOrder
+mod Numbers
+mod Printing
+mod Reading
+mod Stepping
