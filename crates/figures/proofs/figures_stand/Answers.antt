@@ -1,6 +1,6 @@
 use mathlib.Core.Path.{refl}
 use native.Mathlib.Omega.{arith}
-use Rattle.calendar.specs.Dates.{day-number, date-of-day, date-in-year}
+use Rattle.calendar.specs.Dates.{date-in-year}
 use Rattle.calendar.specs.Months.{month-lengths}
 use Rattle.calendar.specs.Runs.{place, start}
 use Rattle.byte_map.specs.Cells.{row}
@@ -9,7 +9,7 @@ use Rattle.figures.proofs.HeldOver.{held-two-on}
 use Rattle.figures.proofs.figures_stand.Needs as need
 
 pub returns : need.returns
-unfolding day-number date-of-day date-in-year month-lengths place start row first-seconds
+unfolding date-in-year month-lengths place start row first-seconds
 returns c =
     record {
       trims = record { trim-07 = refl; trim-7E = refl; trim-3F = refl; trim-42 = refl; trim-00 = refl; trim-01 = refl; trim-40 = refl; trim-41 = refl };
