@@ -1,0 +1,3 @@
+// Worked examples of transfers: each is proved safe, and then run.
+#[cfg(test)]
+mod tests;

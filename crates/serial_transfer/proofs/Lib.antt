@@ -1,0 +1,4 @@
+pub mod Shifts
+pub mod Clocks
+pub mod Wholes
+pub mod Turns
