@@ -19,7 +19,7 @@ use Rattle.timekeeping.specs.declared.call.CoreCall.the-variants.{Pulses, Hold
 use Rattle.timekeeping.specs.declared.call.CoreAnswer.{CoreAnswer}
 use Rattle.timekeeping.specs.declared.call.CoreAnswer.the-variants.{Accepted, Registers}
 use Rattle.timekeeping.specs.CoreCalls.{accepted-with, core-machine}
-use Rattle.timekeeping.specs.Logs.{Heard, Log, state-after, log-with, log-of, sights-of, Undisturbed, ShortStretches}
+use Rattle.timekeeping.specs.Logs.{Heard, Log, state-after, log-with, log-of, answers-in, sights-of, Undisturbed, ShortStretches}
 use Rattle.timekeeping.specs.Example.{example-calls, example-core, MeetsPremises}
 use Rattle.timekeeping.proofs.Moments.{showable-after}
 use Rattle.timekeeping.proofs.ShortLogs.{all-short, unreleased-pulses, short-by-test}
@@ -59,6 +59,15 @@ module _ (c : Chart) (law : Lawful c) (m : MapState) (p : Shown) (shows : shown-
   unfolding log-with state-after
   the-log = ap (λ (b : Bool). release-heard b ∷ earlier) stays-held
 
+  abbrev answers-with : CoreState → List CoreAnswer
+  answers-with s = Accepted ∷ Accepted ∷ Registers (registers s) ∷ Accepted ∷ []
+
+  the-answers : answers-in (core-machine c) (log-of (core-machine c) (example-core c m) example-calls) ≡ Accepted ∷ Accepted ∷ Registers (registers (example-core c m)) ∷ Accepted ∷ []
+  unfolding answers-in
+  the-answers =
+      ap (answers-in (core-machine c)) the-log
+      ∙ ap answers-with crosses
+
   after-release : state-after (core-machine c) (example-core c m) (log-of (core-machine c) (example-core c m) example-calls) ≡ released c (cross-boundary c held-core)
   unfolding log-with state-after
   after-release =
@@ -71,6 +80,7 @@ module _ (c : Chart) (law : Lawful c) (m : MapState) (p : Shown) (shows : shown-
         newly-made = record { map = m; trim = 0x42; shown = p; shows = shows; trim-in-range = omega arith; made = refl };
         undisturbed = subst (Undisturbed (core-machine c) (m .mode)) (sym the-log) (refl, (refl, (refl, (refl, tt))));
         short-stretches = subst (ShortStretches (core-machine c) (m .mode)) (sym the-log) (short-by-test (core-machine c) (m .mode) (release-heard true ∷ earlier) refl);
+        looked = the-answers;
         one-second-on =
             ap (λ (s : CoreState). shown-by c (s .map)) after-release
             ∙ ap (λ (o : Option Shown). shown-by c (advanced-from c m o)) shows

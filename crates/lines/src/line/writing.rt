@@ -11,7 +11,7 @@ use crate::line::Line;
 use refusals::Refusal;
 
 impl Line {
-    pub fn new() -> Line
+    pub(crate) fn new() -> Line
         ensures text { λ r. ⌜ text r ≡ [] ⌝ }
         ensures end { λ r. ⌜ r .end ≡ 0 ⌝ }
     {
@@ -21,7 +21,7 @@ impl Line {
         }
     }
 
-    pub fn push(&mut self, byte: u8)
+    pub(crate) fn push(&mut self, byte: u8)
         requires { ⌜ now self .end < 64 ⌝ }
         ensures text { λ _. ⌜ text (now (self .exit)) ≡ text (now (self .entry)) ++ byte ∷ [] ⌝ }
         ensures end { λ _. ⌜ now (self .exit) .end ≡ now (self .entry) .end + 1 ⌝ }
@@ -30,7 +30,7 @@ impl Line {
         self.end += 1;
     }
 
-    pub fn push_text(&mut self, more: &[u8])
+    pub(crate) fn push_text(&mut self, more: &[u8])
         requires { ⌜ now self .end + length (now more) ≤ 64 ⌝ }
         ensures text { λ _. ⌜ text (now (self .exit)) ≡ text (now (self .entry)) ++ now (more .entry) ⌝ }
         ensures end { λ _. ⌜ now (self .exit) .end ≡ now (self .entry) .end + length (now (more .entry)) ⌝ }
@@ -41,7 +41,7 @@ impl Line {
     }
 
     // In decimal: at most 20 digits.
-    pub fn push_decimal(&mut self, number: u64)
+    pub(crate) fn push_decimal(&mut self, number: u64)
         requires { ⌜ now self .end + 20 ≤ 64 ⌝ }
         ensures text { λ _. ⌜ text (now (self .exit)) ≡ text (now (self .entry)) ++ decimal number ⌝ }
         ensures end { λ _. ⌜ now (self .exit) .end ≡ now (self .entry) .end + length (decimal number) ⌝ }
@@ -56,7 +56,7 @@ impl Line {
     }
 
     // One byte as two hexadecimal digits.
-    pub fn push_hexadecimal_byte(&mut self, byte: u8)
+    pub(crate) fn push_hexadecimal_byte(&mut self, byte: u8)
         requires { ⌜ now self .end + 2 ≤ 64 ⌝ }
         ensures text { λ _. ⌜ text (now (self .exit)) ≡ text (now (self .entry)) ++ hex-byte byte ⌝ }
         ensures end { λ _. ⌜ now (self .exit) .end ≡ now (self .entry) .end + 2 ⌝ }
@@ -65,7 +65,7 @@ impl Line {
         self.push(hexadecimal_digit(byte % 16));
     }
 
-    pub fn push_hexadecimal(&mut self, bytes: &[u8])
+    pub(crate) fn push_hexadecimal(&mut self, bytes: &[u8])
         requires { ⌜ now self .end + 2 * length (now bytes) ≤ 64 ⌝ }
         ensures text { λ _. ⌜ text (now (self .exit)) ≡ text (now (self .entry)) ++ joined hex-byte (now (bytes .entry)) ⌝ }
         ensures end { λ _. ⌜ now (self .exit) .end ≡ now (self .entry) .end + 2 * length (now (bytes .entry)) ⌝ }
@@ -76,7 +76,7 @@ impl Line {
     }
 
     // To the front of `out`, if it has room for any line.
-    pub fn copy_into(&self, out: &mut [u8]) -> Result<usize, Refusal>
+    pub(crate) fn copy_into(&self, out: &mut [u8]) -> Result<usize, Refusal>
         ensures { λ r. ⌜ (r, now (out .exit)) ≡ line-into (text (now (self .entry))) (now (out .entry)) ⌝ }
     {
         if out.len() < 64 {
