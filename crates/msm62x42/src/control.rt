@@ -12,7 +12,7 @@ pub(crate) const HOLD_REGISTER: usize = 13;
 
 const MODE_REGISTER: usize = 15;
 
-// Bits of the data sheet.
+// Bits by their names on the chip.
 const HOLD: u8 = 1;
 
 const BUSY: u8 = 2;

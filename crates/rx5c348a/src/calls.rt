@@ -10,7 +10,7 @@ use refusals::Refusal;
 use register_map::hour_mode::HourMode;
 use register_map::map::RegisterMap;
 
-// Bits by their names in the data sheet.
+// Bits by their names on the chip.
 const TWENTY_FOUR_HOURS: u8 = 0x20;
 
 const XSTP: u8 = 0x10;
