@@ -1,6 +1,7 @@
 // The cells of the digit map.
 ghost use Prim.Native.Nat.{_<_};
 ghost use mathlib.Core.Path.{_≡_};
+ghost use Rattle.calendar.specs.Digits.{hour-digits as marked-hour};
 ghost use Rattle.calendar.specs.Views.{fields-read};
 ghost use Rattle.digit_map.specs.Cells.{row as written-row, digit-chart};
 use calendar::digits::Digits;
@@ -29,6 +30,14 @@ pub(crate) const USED_BITS: [u8; 13] = [0xF, 7, 0xF, 7, 0xF, 7, 0xF, 3, 0xF, 1, 
 // What the afternoon adds to the tens of the hour in 12-hour mode.
 pub(crate) const AFTERNOON: u8 = 4;
 
+// The digits of an hour, with this map's mark of the afternoon.
+pub(crate) fn hour_digits(mode: HourMode, hour: u8) -> Digits
+    requires { ⌜ hour < 24 ⌝ }
+    ensures { λ r. ⌜ r ≡ marked-hour mode 4 hour ⌝ }
+{
+    Digits::of_hour(mode, AFTERNOON, hour)
+}
+
 // The cells of a date, time of day and weekday.
 fn row(mode: HourMode, reading: Reading) -> [u8; 13]
     requires { ⌜ reading .date .year < 100 ⌝ }
@@ -36,7 +45,7 @@ fn row(mode: HourMode, reading: Reading) -> [u8; 13]
 {
     let second = Digits::of(reading.time.second);
     let minute = Digits::of(reading.time.minute);
-    let hour = Digits::of_hour(mode, AFTERNOON, reading.time.hour);
+    let hour = hour_digits(mode, reading.time.hour);
     let day = Digits::of(reading.date.day);
     let month = Digits::of(reading.date.month);
     let year = Digits::of(reading.date.year);

@@ -20,6 +20,7 @@ use crate::cells::USED_BITS;
 use crate::cells::WEEKDAY;
 use crate::cells::YEAR;
 use crate::cells::code;
+use crate::cells::hour_digits;
 use calendar::date::Date;
 use calendar::digits::Digits;
 use calendar::moments::moment_at;
@@ -141,7 +142,7 @@ impl DigitMap {
         if next.minute != 0 {
             return;
         }
-        self.put_digits(HOURS, Digits::of_hour(self.mode, AFTERNOON, next.hour));
+        self.put_digits(HOURS, hour_digits(self.mode, next.hour));
         if next.hour != 0 {
             return;
         }

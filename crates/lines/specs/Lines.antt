@@ -1,6 +1,6 @@
 -- The bench's two lines, byte for byte, and what a line call leaves in its buffer.
 use mathlib.Core.Bool.{cond}
-use mathlib.Core.List.{List, [], _∷_, _++_}
+use mathlib.Core.List.{List, _++_}
 use Prim.Native.Nat.{ℕ}
 use lib.Chars.{codes}
 use lib.Dec.{ltb}

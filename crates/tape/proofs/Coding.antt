@@ -1,18 +1,17 @@
 -- A number, and a record, are read back from the bytes that write them.
-use mathlib.Core.Path.{_≡_, refl, sym, ap, _∙_}
+use mathlib.Core.Path.{_≡_, refl, ap, _∙_}
 use mathlib.Core.List.{List, [], _∷_, _++_}
 use mathlib.Core.Logic.{⊎-elim}
-use Prim.Native.Nat.{ℕ, zero, suc, _+_, _*_, _/_, _%_, _^_, _<_, _≤_}
+use Prim.Native.Nat.{ℕ, zero, suc, _+_, _/_, _%_, _^_, _<_, _≤_}
 use native.Mathlib.Nat.{pow-suc}
 use native.Mathlib.Omega.{arith}
-use lib.ListN.{length}
-use Rattle.std.specs.declared.result.Result.the-variants.{Ok, Err}
+use Rattle.std.specs.declared.result.Result.the-variants.{Ok}
 use Rattle.std.proofs.shelf.Bits.{div-below}
 use Rattle.std.proofs.shelf.Tests.{cases-lt, cond-true, cond-false, lt-ltb, le-ltb}
 use Rattle.tape.specs.declared.record.Record.{Record}
 use Rattle.tape.specs.declared.record.Record.the-variants.{Load, Pulses, Print}
 use Rattle.tape.specs.declared.record.Kind.{Kind}
-use Rattle.tape.specs.Records.{NumberRead, RecordRead, low-group, groups-after, read-number, read-record, with-number}
+use Rattle.tape.specs.Records.{NumberRead, low-group, groups-after, read-number, read-record, with-number}
 use Rattle.tape.specs.Written.{groups-of, number-bytes, record-bytes, number-in}
 use Rattle.tape.proofs.Numbers.{last-group, more-groups}
 

@@ -1,10 +1,10 @@
 -- Every tape is some written records and a rest that begins with no record that can be read.
-use mathlib.Core.Path.{_≡_, refl, sym, ap, subst, _∙_}
-use mathlib.Core.Bool.{Bool, true, false, _&&_}
+use mathlib.Core.Path.{_≡_, refl, sym, ap, _∙_}
+use mathlib.Core.Bool.{false, _&&_}
 use mathlib.Core.List.{List, [], _∷_, _++_, append-assoc}
 use mathlib.Core.Logic.{⊎-elim}
 use Prim.Native.Nat.{ℕ, zero, suc, _+_, _*_, _/_, _%_, _^_, _<_, _≤_}
-use native.Mathlib.Nat.{pow-suc, pow-le-pow-right, mul-le-mul-right}
+use native.Mathlib.Nat.{pow-suc, pow-le-pow-right}
 use native.Mathlib.Omega.{arith}
 use lib.Dec.{eqb, ltb}
 use lib.ListN.{length, getD}
@@ -17,8 +17,8 @@ use Rattle.tape.specs.declared.record.Kind.{Kind}
 use Rattle.tape.specs.declared.record.Kind.the-variants.{LoadMoment, GivePulses, PrintRegisters}
 use Rattle.tape.specs.declared.record.Record.{Record}
 use Rattle.tape.specs.declared.record.TapeRefusal.{TapeRefusal}
-use Rattle.tape.specs.Records.{NumberRead, RecordRead, low-group, groups-after, read-number, read-record, record-of, kind-of, with-kind, with-number}
-use Rattle.tape.specs.Written.{groups-of, number-bytes, record-bytes, number-in, tape-of, WrittenAs, Ends}
+use Rattle.tape.specs.Records.{NumberRead, RecordRead, low-group, groups-after, read-number, read-record, with-kind, with-number}
+use Rattle.tape.specs.Written.{groups-of, record-bytes, number-in, tape-of, WrittenAs, Ends}
 use Rattle.tape.proofs.Coding.{one-group, several-groups}
 use Rattle.tape.proofs.Reading.{record-shortens}
 

@@ -1,9 +1,8 @@
 -- A tape does the records that write it in order.
-use mathlib.Core.Path.{_≡_, refl, sym, ap, _∙_}
+use mathlib.Core.Path.{_≡_, refl, ap, _∙_}
 use mathlib.Core.List.{List, [], _∷_, _++_, append-assoc}
 use Prim.Native.Nat.{ℕ, _+_, _-_, _^_, _<_, _≤_}
 use native.Mathlib.Omega.{arith}
-use lib.Dec.{ltb}
 use lib.ListN.{length}
 use Rattle.std.specs.Results.{Cases}
 use Rattle.std.specs.Vec.{made}
@@ -19,8 +18,8 @@ use Rattle.tape.specs.declared.play.Playback.{Playback}
 use Rattle.tape.specs.declared.record.Record.{Record}
 use Rattle.tape.specs.declared.record.Record.the-variants.{Load, Pulses, Print}
 use Rattle.tape.specs.declared.record.TapeRefusal.{TapeRefusal}
-use Rattle.tape.specs.Playing.{Bench, Outcome, Stepped, bench, do-record, do-read, done-before, rest-after, one-record, place-fault, with-place, go-on, then-on, play-rest}
-use Rattle.tape.specs.Records.{RecordRead, read-record}
+use Rattle.tape.specs.Playing.{Bench, Outcome, bench, do-record, do-read, done-before, rest-after, one-record, place-fault, with-place, go-on, then-on, play-rest}
+use Rattle.tape.specs.Records.{RecordRead}
 use Rattle.tape.specs.Tapes.{play-tape, played}
 use Rattle.tape.specs.Written.{record-bytes, number-in, tape-of, Writable, next-record, do-records, unless-refused, and-then, WrittenAs, Ends, ended, InOrder}
 use Rattle.tape.proofs.Coding.{record-read-back}

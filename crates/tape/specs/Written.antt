@@ -17,7 +17,7 @@ use Rattle.tape.specs.declared.record.Record.the-variants.{Load, Pulses, Print
 use Rattle.tape.specs.declared.record.TapeRefusal.{TapeRefusal}
 use Rattle.tape.specs.Faults.{of-tape, of-part, at-place}
 use Rattle.tape.specs.Playing.{Bench, Outcome, bench, do-record, play-rest}
-use Rattle.tape.specs.Records.{RecordRead, read-record}
+use Rattle.tape.specs.Records.{read-record}
 
 -- A number in groups of seven bits, lowest first: at most `more` with bit 7 set, and then the last.
 unfoldable pub groups-of : ℕ → ℕ → List ℕ

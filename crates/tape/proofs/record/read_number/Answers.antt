@@ -1,8 +1,5 @@
-use mathlib.Core.Path.{_≡_, _∙_}
-use Prim.Native.Nat.{_<_, _≤_, _^_, _%_}
 use native.Mathlib.Omega.{arith}
 use borrow.Author.Needs.{needs}
-use lib.ListN.{length, getD}
 use Rattle.tape.proofs.Numbers.{broken-off, number-ends, padded, too-many-groups, number-goes-on, weight-bounded, weight-more, group-bounded, stays-below}
 use Rattle.tape.proofs.record.read_number.Needs as need
 

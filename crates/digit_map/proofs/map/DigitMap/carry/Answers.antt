@@ -29,12 +29,12 @@ returns-then-next-ne0-3 c =
     ap₂ map-state
     (
     c .put-digits-3 .ensures .cells
-    ∙ ap (λ cells. digits-put cells 4 (c .of-hour .result)) (c .put-digits-2 .ensures .cells ∙ ap (λ cells. digits-put cells 2 (c .of-2 .result)) (c .put-digits .ensures .cells))
+    ∙ ap (λ cells. digits-put cells 4 (c .hour-digits .result)) (c .put-digits-2 .ensures .cells ∙ ap (λ cells. digits-put cells 2 (c .of-2 .result)) (c .put-digits .ensures .cells))
     )
     (c .put-digits-3 .ensures .mode ∙ mode)
     ∙ new-hour (c .args .self .now .mode) (c .args .self .now .cells) (fields-read (c .args .from)) (c .pre) (time-of (c .next-next .result)) (c .next-next .ensures)
-    (c .of .result) (c .of-2 .result) (c .of-hour .result) (c .of .ensures) (c .of-2 .ensures)
-    (c .of-hour .ensures ∙ ap (λ m. hour-digits m 4 (c .next-next .result .hour)) mode)
+    (c .of .result) (c .of-2 .result) (c .hour-digits .result) (c .of .ensures) (c .of-2 .ensures)
+    (c .hour-digits .ensures ∙ ap (λ m. hour-digits m 4 (c .next-next .result .hour)) mode)
     (c .if-next-ne0-3 .taken)
 
 pub next-requires : need.next-requires
@@ -55,12 +55,12 @@ returns c =
     ∙ ap (dated (weekday-after (c .args .from .weekday)) (date-of (c .next .result)))
     (
     c .put-digits-3 .ensures .cells
-    ∙ ap (λ cells. digits-put cells 4 (c .of-hour .result)) (c .put-digits-2 .ensures .cells ∙ ap (λ cells. digits-put cells 2 (c .of-2 .result)) (c .put-digits .ensures .cells))
+    ∙ ap (λ cells. digits-put cells 4 (c .hour-digits .result)) (c .put-digits-2 .ensures .cells ∙ ap (λ cells. digits-put cells 2 (c .of-2 .result)) (c .put-digits .ensures .cells))
     )
     )
     (c .begin-day .ensures .mode ∙ c .put-digits-3 .ensures .mode ∙ mode)
     ∙ new-date (c .args .self .now .mode) (c .args .self .now .cells) (fields-read (c .args .from)) (c .pre) (time-of (c .next-next .result)) (c .next-next .ensures)
-    (c .of .result) (c .of-2 .result) (c .of-hour .result) (date-of (c .next .result)) (c .of .ensures) (c .of-2 .ensures)
-    (c .of-hour .ensures ∙ ap (λ m. hour-digits m 4 (c .next-next .result .hour)) mode)
+    (c .of .result) (c .of-2 .result) (c .hour-digits .result) (date-of (c .next .result)) (c .of .ensures) (c .of-2 .ensures)
+    (c .hour-digits .ensures ∙ ap (λ m. hour-digits m 4 (c .next-next .result .hour)) mode)
     (c .next .ensures)
     (omega (arith, c .if-next-ne0 .left, c .if-next-ne0-2 .left, c .if-next-ne0-3 .left))
