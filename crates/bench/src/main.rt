@@ -1,4 +1,6 @@
 // Plays standard input, as one tape, on a 348A at power-on; writes what the tape prints and, after a fault, the fault's line.
+#![tactic(auto)]
+
 use refusals::Refusal;
 use rx5c348a::part::Rx5c348a;
 use std::alloc::AllocError;

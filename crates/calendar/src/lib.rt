@@ -1,4 +1,6 @@
 // The calendar that every register map shares: months, dates, times of day, moments, and numbers in decimal digits.
+#![tactic(auto)]
+
 pub mod date;
 pub mod dates;
 pub mod decimal;

@@ -2,7 +2,7 @@
 use Rattle.std.proofs.Common.{◌≡◌, ℕ, zero, suc, ◌+◌, ◌-◌, ◌<◌, ◌≤◌, Bool, true, false, cond, ltb, Ok, Err, sym, refl, ap, ◌∙◌, subst, arith, ltb-false, ltb-true, le-ltb, lt-ltb}
 use Rattle.register_map.specs.Chart.{Chart, MapState, advanced}
 use Rattle.refusals.specs.declared.Refusal.TheVariants.{TooManyPulses}
-use Rattle.clock_core.specs.Core.{CoreState, Accepted, with_map, at_position, waiting, begin_second, cross_boundary, one_pulse, many_pulses, pulses_left, run_to_boundary, give_pulses}
+use Rattle.clock_core.specs.Core.{CoreState, Accepted, with_map, at_position, waiting, begin_second, cross_boundary, one_pulse, many_pulses, run_to_boundary, give_pulses}
 
 -- a pulse within the second
 pub pulse_within : (c : Chart) (s : CoreState) → s.position + 1 < s.second → one_pulse c s ≡ at_position s (s.position + 1)
@@ -41,32 +41,30 @@ pulses_in_parts c (suc a) b s =
 
 -- what `run-to-boundary` answers, by whether the boundary is reached
 abbrev run_by : Chart → CoreState → ℕ → Bool → ℕ × CoreState
-run_by c s n b = cond b (0, at_position s (s.position + n)) (n - pulses_left s, cross_boundary c s)
+run_by c s n b = cond b (0, at_position s (s.position + n)) (s.position + n - s.second, cross_boundary c s)
 
 -- what is left after the next boundary, from there, is the whole from here
-run_whole : (c : Chart) (s : CoreState) (n : ℕ) (b : Bool) → ltb n (pulses_left s) ≡ b → s.position < s.second → many_pulses c (run_by c s n b).0 (run_by c s n b).1 ≡ many_pulses c n s
+run_whole : (c : Chart) (s : CoreState) (n : ℕ) (b : Bool) → ltb (s.position + n) s.second ≡ b → s.position < s.second → many_pulses c (run_by c s n b).0 (run_by c s n b).1 ≡ many_pulses c n s
 unfolding many_pulses
-run_whole c s n true e h =
-    let few = ltb-true _ _ e in
-    sym (pulses_within c n s (omega arith))
+run_whole c s n true e h = sym (pulses_within c n s (ltb-true _ _ e))
 run_whole c s n false e h =
     let reached = ltb-false _ _ e in
     let k : ℕ = s.second - s.position - 1 in
-    let left : ℕ = n - pulses_left s in
+    let left : ℕ = s.position + n - s.second in
     let parts : n ≡ suc k + left = omega arith in
     let whole : s.position + suc k ≡ s.second = omega arith in
     sym (ap (λ m. many_pulses c m s) parts ∙ pulses_in_parts c (suc k) left s ∙ ap (many_pulses c left) (pulses_to_boundary c k s whole))
 
-run_falls : (s : CoreState) (c : Chart) (n : ℕ) (b : Bool) → ltb n (pulses_left s) ≡ b → s.position < s.second → 0 < n → (run_by c s n b).0 < n
+run_falls : (s : CoreState) (c : Chart) (n : ℕ) (b : Bool) → ltb (s.position + n) s.second ≡ b → s.position < s.second → 0 < n → (run_by c s n b).0 < n
 run_falls s c n true e h p = p
 run_falls s c n false e h p = let reached = ltb-false _ _ e in omega arith
 
 pub pulses_run : (c : Chart) (s t : CoreState) (n left : ℕ) → (left, t) ≡ run_to_boundary c s n → s.position < s.second → 0 < n → (left < n) × (many_pulses c left t ≡ many_pulses c n s)
 pulses_run c s t n left e h p = (
   let fewer : left ≡ (run_to_boundary c s n).0 = ap (λ x. x.0) e in
-      let falls = run_falls s c n (ltb n (pulses_left s)) refl h p in
+      let falls = run_falls s c n (ltb (s.position + n) s.second) refl h p in
       omega arith,
-  ap (λ x. many_pulses c x.0 x.1) e ∙ run_whole c s n (ltb n (pulses_left s)) refl h,
+  ap (λ x. many_pulses c x.0 x.1) e ∙ run_whole c s n (ltb (s.position + n) s.second) refl h,
 )
 
 -- all given: none is left

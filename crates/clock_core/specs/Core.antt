@@ -73,7 +73,8 @@ pulses_left s = s.second - s.position
 -- Pulses up to the next boundary: how many are left, and the core then.
 abbrev pub run_to_boundary : Chart → CoreState → ℕ → ℕ × CoreState
 run_to_boundary c s n =
-    cond (nat_lt n (pulses_left s)) (0, at_position s (s.position + n)) (n - pulses_left s, cross_boundary c s)
+    cond (nat_lt (s.position + n) s.second) (0, at_position s (s.position + n))
+    (s.position + n - s.second, cross_boundary c s)
 
 -- Registers 0 to 15: the cells, then zeros.
 abbrev pub registers : CoreState → List ℕ

@@ -1,4 +1,6 @@
 // The clock core over any register map: seconds of pulses, trim, hold and release.
+#![tactic(auto)]
+
 pub mod boundary;
 pub mod cells;
 pub mod core;

@@ -1,4 +1,6 @@
 // The core alone, as a maker would use it: the end of an hour, crossed while the core is held.
+#![tactic(auto)]
+
 mod calls;
 mod lines;
 

@@ -1,4 +1,6 @@
 // Tests of the core over the byte map: what no contract says of one call alone is tried here on runs.
+#![tactic(auto)]
+
 #[cfg(test)]
 mod cores;
 #[cfg(test)]

@@ -3,7 +3,7 @@ use Rattle.std.proofs.Common.{◌≡◌, ℕ, suc, ◌+◌, ◌-◌, ◌%◌, �
 use Rattle.std.specs.Option.{option_map}
 use Rattle.refusals.specs.declared.Refusal.TheVariants.{NotHeld, AlreadyHeld}
 use Rattle.register_map.specs.Chart.{Chart, Lawful, Shown, MapState, map_state, shown_by, second_of, second_after, advanced, advanced_from}
-use Rattle.clock_core.specs.Core.{CoreState, Accepted as Acceptance, new_core, at_position, counted_value, many_pulses, cross_boundary, pulses_left, run_to_boundary, hold_core, release_core}
+use Rattle.clock_core.specs.Core.{CoreState, Accepted as Acceptance, new_core, at_position, counted_value, many_pulses, cross_boundary, run_to_boundary, hold_core, release_core}
 use Rattle.clock_core.specs.Seconds.{second_pulses, trimmed_length}
 use Rattle.clock_core.proofs.Runs.{pulses_within, pulses_to_boundary, pulses_run}
 use Rattle.clock_core.proofs.Values.{value_after}
@@ -18,11 +18,11 @@ use Rattle.figures.specs.Figures.{held_over_first}
 -- pulses over one boundary, and on within the next second
 over : (c : Chart) (s : CoreState) (n left : ℕ) → s.position < s.second → s.position + n ≡ s.second + left → 0 < n → left < (cross_boundary c s).second → many_pulses c n s ≡ at_position (cross_boundary c s) left
 over c s n left within e some room =
-    let past : pulses_left s ≤ n = omega arith in
-    let same : left ≡ n - pulses_left s = omega arith in
+    let past : s.second ≤ s.position + n = omega arith in
+    let same : left ≡ s.position + n - s.second = omega arith in
     let run : (left, cross_boundary c s) ≡ run_to_boundary c s n =
     ap (λ (k : ℕ). (k, cross_boundary c s)) same
-    ∙ sym (ap (λ (b : Bool). cond {A = ℕ × CoreState} b (0, at_position s (s.position + n)) (n - pulses_left s, cross_boundary c s)) (le-ltb _ _ past)) in
+    ∙ sym (ap (λ (b : Bool). cond {A = ℕ × CoreState} b (0, at_position s (s.position + n)) (s.position + n - s.second, cross_boundary c s)) (le-ltb _ _ past)) in
     let rest = pulses_run c s (cross_boundary c s) n left run within some in
     let same_place : 0 + left ≡ left = omega arith in
     sym rest.1 ∙ pulses_within c left (cross_boundary c s) (subst (λ (k : ℕ). k < (cross_boundary c s).second) (sym same_place) room) ∙ ap (at_position (cross_boundary c s)) same_place

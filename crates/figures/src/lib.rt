@@ -1,4 +1,6 @@
 // The figures of the makers' data sheet that are proved.
+#![tactic(auto)]
+
 ghost use Rattle.figures.specs.Figures.{Figures};
 
 // Says that every figure follows from the definitions that the contracts use.

@@ -1,7 +1,7 @@
 // Each call is one session: opened, used and closed, whatever the part answers.
 use host_sessions::idle::IdleSession;
 use refusals::Refusal;
-use rx5c348a::part::Rx5c348a;
+use rx5c348a_whole::part::Rx5c348a;
 
 pub(crate) const ALARM_W: u32 = 0x8;
 

@@ -2,7 +2,7 @@
 use Rattle.std.specs.Prelude.{ℕ, min, List, [], ◌∷◌, ◌++◌, length, take, drop, Ok, Err, Result}
 use Rattle.refusals.specs.declared.Refusal.{Refusal}
 use Rattle.clock_core.specs.Core.{Accepted}
-use Rattle.rx5c348a.specs.Part.{PartState}
+use Rattle.rx5c348a_whole.specs.Part.{PartState}
 use Rattle.rx5c348a_runs.specs.declared.call.WireAnswer.{WireAnswer}
 use Rattle.rx5c348a_runs.specs.Calls.{do_call}
 use Rattle.host_wires.specs.declared.record.PinRecord.{PinRecord}

@@ -4,13 +4,13 @@ ghost use Rattle.byte_map.specs.Cells.{byte_chart};
 ghost use Rattle.timekeeping.specs.Law.{KeepsTime};
 ghost use Rattle.rx5c348a_runs.specs.Calls.{part_machine};
 ghost use Rattle.rx5c348a_runs.specs.Start.{AtRest};
-ghost use Rattle.rx5c348a.specs.Part.{seen};
+ghost use Rattle.rx5c348a_whole.specs.Part.{seen};
 ghost use Rattle.host_runs.specs.Hosts.{seat, host_state, host_step, work_one, host_run};
 ghost use Rattle.host_runs.specs.Levels.{on_wires, part_after};
 
 use crate::call::{HostAnswer, HostCall};
 use crate::session::HostSession;
-use rx5c348a::part::Rx5c348a;
+use rx5c348a_whole::part::Rx5c348a;
 use rx5c348a_runs::work::do_call;
 use std::alloc::{AllocError, Global};
 

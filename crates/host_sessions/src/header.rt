@@ -1,10 +1,10 @@
 // The header that begins a transfer.
 ghost use Rattle.std.specs.Prelude.{◌≡◌, ◌<◌};
-ghost use Rattle.rx5c348a.specs.Part.{seen};
+ghost use Rattle.rx5c348a_whole.specs.Part.{seen};
 ghost use Rattle.host_sessions.specs.Sessions.{header_for};
 
 use refusals::Refusal;
-use rx5c348a::part::Rx5c348a;
+use rx5c348a_whole::part::Rx5c348a;
 
 // The formats of a header, its low four bits.
 pub(crate) const BURST_WRITE: u8 = 0;

@@ -1,11 +1,11 @@
 // The levels that begin and end a session: SI stays low, and the pin record follows each.
 ghost use Rattle.std.specs.Prelude.{◌≡◌};
-ghost use Rattle.rx5c348a.specs.Part.{seen};
+ghost use Rattle.rx5c348a_whole.specs.Part.{seen};
 ghost use Rattle.host_wires.specs.Record.{wired};
 ghost use Rattle.host_sessions.specs.Sessions.{at_levels, opening, closing};
 
 use host_wires::record::PinRecord;
-use rx5c348a::part::Rx5c348a;
+use rx5c348a_whole::part::Rx5c348a;
 
 // Drives CE and SCLK, with SI low.
 fn drive(pins: &mut PinRecord, part: &mut Rx5c348a, ce: bool, sclk: bool)

@@ -1,7 +1,7 @@
 // A host with a session for each call, and parts for it.
 use host_sessions::idle::IdleSession;
 use refusals::Refusal;
-use rx5c348a::part::Rx5c348a;
+use rx5c348a_whole::part::Rx5c348a;
 use std::test::Fail;
 
 pub(crate) const SECOND: u64 = 32_768;

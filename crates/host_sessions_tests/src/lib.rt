@@ -1,4 +1,6 @@
 // Tests of host sessions: what a host does and sees over whole sessions, and what raw levels left on the wires do to them.
+#![tactic(auto)]
+
 #[cfg(test)]
 mod burst_tests;
 #[cfg(test)]

@@ -1,7 +1,7 @@
 // Sessions opened over a part that raw levels left in the middle of a transfer.
 use crate::host::*;
 use host_sessions::idle::IdleSession;
-use rx5c348a::part::Rx5c348a;
+use rx5c348a_whole::part::Rx5c348a;
 use std::process::Abort;
 
 // Opens a session on a part in any state: a header is awaited, the record has CE alone, and reads serve.

@@ -1,13 +1,13 @@
 // Bits and bytes shifted in and out: a bit is SCLK high, then low, with CE high.
 ghost use Rattle.std.specs.Prelude.{◌≡◌, ◌≤◌, true, false};
-ghost use Rattle.rx5c348a.specs.Part.{seen};
+ghost use Rattle.rx5c348a_whole.specs.Part.{seen};
 ghost use Rattle.host_wires.specs.Record.{wired};
 ghost use Rattle.host_wires.specs.Shifting.{driven, bit_in, bits_in, low_levels, byte_in, bit_out, spelt_out, byte_out};
 ghost use Rattle.host_wires.specs.Laws.{Arrives, StandsThere};
 
 use crate::bits::{bit_set, taken_in};
 use crate::record::PinRecord;
-use rx5c348a::part::Rx5c348a;
+use rx5c348a_whole::part::Rx5c348a;
 use serial_transfer::phase::SerialOut;
 
 impl PinRecord {

@@ -1,4 +1,6 @@
 // The two lines of the bench, byte for byte: what a print record prints, and what is printed of a fault.
+#![tactic(auto)]
+
 mod line;
 mod origin;
 

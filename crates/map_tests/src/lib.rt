@@ -1,4 +1,6 @@
 // Examples that the calendar and the maps must meet: each is proved safe, and then run.
+#![tactic(auto)]
+
 #[cfg(test)]
 mod byte_cells;
 #[cfg(test)]

@@ -1,4 +1,6 @@
 // Tests of the 62X42: what a host that is written for the chip does and sees, and runs that no single contract speaks of.
+#![tactic(auto)]
+
 #[cfg(test)]
 mod carry_tests;
 #[cfg(test)]

@@ -1,4 +1,6 @@
 // Why a call is refused. Each case has its number in the refusal table (docs/REFUSALS.md).
+#![tactic(auto)]
+
 ghost use Rattle.std.specs.Prelude.{◌≡◌};
 ghost use Rattle.refusals.specs.Numbers.{number_of};
 

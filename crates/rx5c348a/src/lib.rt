@@ -1,4 +1,5 @@
-// The 348A: the register file on four wires, CE, SCLK, SI and SO, with its interrupt line.
+// The 348A: a clock part with sixteen registers over the byte map.
+#![tactic(auto)]
+
 pub mod calls;
 pub mod part;
-pub mod pins;

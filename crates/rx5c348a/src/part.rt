@@ -1,12 +1,10 @@
 // The part's record.
-use rx5c_registers::file::RegisterFile;
-use serial_transfer::transfer::Transfer;
+use byte_map::map::ByteMap;
+use clock_core::core::ClockCore;
 
 #[derive(Drop)]
 pub struct Rx5c348a {
-    pub registers: RegisterFile,
-    // the levels that CE and SCLK were given last; SI counts only in its call
-    pub ce: bool,
-    pub sclk: bool,
-    pub transfer: Transfer,
+    pub core: ClockCore<ByteMap>,
+    // XSTP: the oscillator has stopped, and the time is not to be trusted
+    pub oscillator_stopped: bool,
 }

@@ -1,6 +1,6 @@
 // The calls of a part as data, and what they answer.
 use refusals::Refusal;
-use rx5c348a::pins::PinAnswer;
+use rx5c348a_whole::pins::PinAnswer;
 
 #[derive(Clone, Copy)]
 pub enum WireCall {

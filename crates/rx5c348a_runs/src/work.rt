@@ -1,7 +1,7 @@
 // Works a list of calls on a part.
 ghost use Rattle.std.specs.Prelude.{◌≡◌, MatchResult};
 ghost use Rattle.byte_map.specs.Cells.{byte_chart};
-ghost use Rattle.rx5c348a.specs.Part.{seen};
+ghost use Rattle.rx5c348a_whole.specs.Part.{seen};
 ghost use Rattle.timekeeping.specs.Law.{KeepsTime};
 ghost use Rattle.timekeeping.specs.Logs.{outcome};
 ghost use Rattle.rx5c348a_runs.specs.Calls.{acceptance, levels_answered, registers_seen, do_call, work_one, part_machine};
@@ -10,8 +10,8 @@ ghost use Rattle.rx5c348a_runs.specs.Complete.{EverythingIsSeen};
 
 use crate::call::{WireAnswer, WireCall};
 use refusals::Refusal;
-use rx5c348a::part::Rx5c348a;
-use rx5c348a::pins::PinAnswer;
+use rx5c348a_whole::part::Rx5c348a;
+use rx5c348a_whole::pins::PinAnswer;
 use std::alloc::{AllocError, Global};
 
 fn accepted_or_refused(answer: Result<(), Refusal>) -> WireAnswer

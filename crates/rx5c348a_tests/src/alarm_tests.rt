@@ -1,6 +1,6 @@
 // The two alarms: when they ring, and when not.
 use crate::host::*;
-use rx5c348a::part::Rx5c348a;
+use rx5c348a_whole::part::Rx5c348a;
 use std::process::Abort;
 
 // 19 July 2026, 00:00:00, a Sunday.

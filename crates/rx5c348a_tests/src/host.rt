@@ -1,5 +1,5 @@
 // A host on the four wires, bit by bit, and parts for it.
-use rx5c348a::part::Rx5c348a;
+use rx5c348a_whole::part::Rx5c348a;
 use std::process::Abort;
 use std::test::Fail;
 

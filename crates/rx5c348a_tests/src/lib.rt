@@ -1,4 +1,6 @@
 // Tests of the 348A: a host on its four wires, bit by bit, and what it sees.
+#![tactic(auto)]
+
 #[cfg(test)]
 mod alarm_tests;
 #[cfg(test)]

@@ -1,7 +1,7 @@
 // What each call refuses, by number, and that a refused call changes nothing.
 use crate::host::*;
 use refusals::Refusal;
-use rx5c348a::part::Rx5c348a;
+use rx5c348a_whole::part::Rx5c348a;
 
 // The number of a refusal, or 0.
 fn number(res: Result<(), Refusal>) -> u8 {

@@ -1,6 +1,6 @@
 // The registers: unused bits, what writing some of them does besides, power-on, load and halt.
 use crate::host::*;
-use rx5c348a::part::Rx5c348a;
+use rx5c348a_whole::part::Rx5c348a;
 use std::process::Abort;
 
 const USED_BITS: [u8; 16] = [

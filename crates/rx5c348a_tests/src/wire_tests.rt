@@ -3,7 +3,7 @@ use crate::host::*;
 use std::process::Abort;
 
 // A byte of which no bit is heard, and none given.
-fn unheard(rt: &impl Abort, part: &mut rx5c348a::part::Rx5c348a, byte: u8) -> Result<(), Fail> {
+fn unheard(rt: &impl Abort, part: &mut rx5c348a_whole::part::Rx5c348a, byte: u8) -> Result<(), Fail> {
     for k in 0..8u8 {
         assert_eq!(rt; clock(part, (byte >> (7 - k)) & 1)?, (OFF, OFF));
     }

@@ -1,3 +1,5 @@
 // Worked examples of transfers: each is proved safe, and then run.
+#![tactic(auto)]
+
 #[cfg(test)]
 mod tests;

@@ -4,7 +4,7 @@ use native.Mathlib.Nat.{pow-le-pow_right}
 use Rattle.std.proofs.lemmas.List.{get_or-append-add}
 use Rattle.std.proofs.lemmas.Bool.{cond_both, ltb-true, ltb-false, eqb-true, eqb-false, and_cases}
 use Rattle.tape.specs.declared.record.Kind.{Kind}
-use Rattle.tape.specs.declared.record.Kind.TheVariants.{LoadMoment, GivePulses, GiveLevels, PrintRegisters}
+use Rattle.tape.specs.declared.record.Kind.TheVariants.{LoadMoment, GivePulses, PrintRegisters}
 use Rattle.tape.specs.declared.record.Record.{Record}
 use Rattle.tape.specs.declared.record.TapeRefusal.{TapeRefusal}
 use Rattle.tape.specs.Records.{NumberRead, RecordRead, low_group, groups_after, read_number, read_record, with_kind, with_number}
@@ -69,8 +69,7 @@ record_stands (byte ∷ bytes) are =
     let number = number_stands 4 0 bytes refl (λ i. are (suc i)) in
     cond_both (eqb byte 0x4D) _ _ P (λ is. loads (read_number bytes) (eqb-true byte 0x4D is) number)
     (λ _. cond_both (eqb byte 0x50) _ _ P (λ is. pulses (read_number bytes) (eqb-true byte 0x50 is) number)
-    (λ _. cond_both (eqb byte 0x57) _ _ P (λ is. levels (read_number bytes) (eqb-true byte 0x57 is) number)
-    (λ _. cond_both (eqb byte 0x4C) _ _ P (λ is. prints (read_number bytes) (eqb-true byte 0x4C is) number) (λ _. tt))))
+    (λ _. cond_both (eqb byte 0x4C) _ _ P (λ is. prints (read_number bytes) (eqb-true byte 0x4C is) number) (λ _. tt)))
   where
     loads : (x : NumberRead) → byte ≡ 0x4D → IfOk x (λ read. NumberStands 4 0 bytes read.0 read.1) → IfOk (with_number LoadMoment x) (λ read. RecordStands (byte ∷ bytes) read.0 read.1)
     loads (Ok read) is h = record { whole = λ i. is i ∷ h.whole i; fits = h.fits }
@@ -79,10 +78,6 @@ record_stands (byte ∷ bytes) are =
     pulses : (x : NumberRead) → byte ≡ 0x50 → IfOk x (λ read. NumberStands 4 0 bytes read.0 read.1) → IfOk (with_number GivePulses x) (λ read. RecordStands (byte ∷ bytes) read.0 read.1)
     pulses (Ok read) is h = record { whole = λ i. is i ∷ h.whole i; fits = h.fits }
     pulses (Err e) is h = tt
-
-    levels : (x : NumberRead) → byte ≡ 0x57 → IfOk x (λ read. NumberStands 4 0 bytes read.0 read.1) → IfOk (with_number GiveLevels x) (λ read. RecordStands (byte ∷ bytes) read.0 read.1)
-    levels (Ok read) is h = record { whole = λ i. is i ∷ h.whole i; fits = h.fits }
-    levels (Err e) is h = tt
 
     prints : (x : NumberRead) → byte ≡ 0x4C → IfOk x (λ read. NumberStands 4 0 bytes read.0 read.1) → IfOk (with_number PrintRegisters x) (λ read. RecordStands (byte ∷ bytes) read.0 read.1)
     prints (Ok read) is h = record { whole = λ i. is i ∷ h.whole i; fits = h.fits }

@@ -7,8 +7,7 @@ use Rattle.std.proofs.lemmas.Bool.{cond-true, cond-false, le-ltb}
 use Rattle.lines.specs.Lines.{record_text}
 use Rattle.lines.specs.Words.{hex_byte}
 use Rattle.refusals.specs.declared.Refusal.{Refusal}
-use Rattle.rx5c348a.specs.Part.{PartState, look_part}
-use Rattle.rx5c_registers.specs.File.{registers}
+use Rattle.rx5c348a.specs.Part.{PartState, registers, look_part}
 
 -- an answer is not both
 pub ok_not_err : {T E : Type 0} {r : Result T E} (x : T) (e : E) → r ≡ Ok x → r ≡ Err e → ⊥
@@ -35,6 +34,6 @@ added before after part text held holds room ok is short roomy succeeds after_is
     (after_is ∙ cond-true ok _ _ done ∙ ap (λ l. before ++ l) is, omega (arith, holds_is ∙ cond-true ok _ _ done))
 
 -- a look at sixteen bytes copies the registers
-pub look_at_sixteen : (s : PartState) (buffer : List ℕ) → length buffer ≡ 16 → look_part s buffer ≡ (Ok tt, registers s.file)
+pub look_at_sixteen : (s : PartState) (buffer : List ℕ) → length buffer ≡ 16 → look_part s buffer ≡ (Ok tt, registers s)
 look_at_sixteen s buffer sixteen =
-    cond-false _ _ _ (le-ltb (length buffer) 16 (omega arith)) ∙ ap {B = Result (Unit {0}) Refusal × List ℕ} (λ (l : List ℕ). (Ok tt, registers s.file ++ l)) (drop_all 16 buffer (omega arith)) ∙ ap {B = Result (Unit {0}) Refusal × List ℕ} (λ (l : List ℕ). (Ok tt, l)) (append-nil (registers s.file))
+    cond-false _ _ _ (le-ltb (length buffer) 16 (omega arith)) ∙ ap {B = Result (Unit {0}) Refusal × List ℕ} (λ (l : List ℕ). (Ok tt, registers s ++ l)) (drop_all 16 buffer (omega arith)) ∙ ap {B = Result (Unit {0}) Refusal × List ℕ} (λ (l : List ℕ). (Ok tt, l)) (append-nil (registers s))

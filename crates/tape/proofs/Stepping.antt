@@ -1,8 +1,7 @@
 -- A tape is played record by record: each leaves fewer bytes, and what is left to play gives the whole.
-use Rattle.std.proofs.Common.{◌≡◌, ℕ, zero, suc, ◌+◌, ◌-◌, ◌<◌, ◌≤◌, List, [], ◌∷◌, length, IfOk, Ok, Err, Result, sym, refl, ap, ◌∙◌, arith}
+use Rattle.std.proofs.Common.{◌≡◌, ℕ, zero, suc, ◌+◌, ◌-◌, ◌<◌, ◌≤◌, List, [], ◌∷◌, length, IfOk, Ok, Err, Result, refl, arith}
 use Rattle.refusals.specs.declared.Refusal.{Refusal}
 use Rattle.tape.specs.declared.fault.RecordFault.{RecordFault}
-use Rattle.tape.specs.declared.fault.TapeFault.{TapeFault}
 use Rattle.tape.specs.Playing.{Bench, Outcome, do_record, do_read, rest_after, one_record, place_fault, with_place, go_on, then_on, play_from, play_rest}
 use Rattle.tape.specs.Records.{RecordRead, read_record}
 use Rattle.tape.proofs.Reading.{record_shortens}
@@ -44,14 +43,6 @@ plays_on total [] b some = absurd (omega arith)
 plays_on total (x ∷ xs) b some =
     same_on (play_from (length xs) total) (play_rest total) (total - length (x ∷ xs)) (length (x ∷ xs)) (one_record (x ∷ xs) b).0 (one_record (x ∷ xs) b).1 (step_shortens (x ∷ xs) b)
     (λ rest short. turns_enough (length xs) (length rest) total rest (one_record (x ∷ xs) b).1 (omega arith) (omega arith))
-
--- One record done: playing its rest is playing the whole.
-pub record_done : (total : ℕ) (bytes rest : List ℕ) (before after : Bench) → 0 < length bytes → ◌≡◌ {A = Result (List ℕ) TapeFault × Bench} (Ok rest, after) (with_place (total - length bytes) (one_record bytes before)) → play_rest total rest after ≡ play_rest total bytes before
-record_done total bytes rest before after some did = ap (then_on (play_rest total)) did ∙ sym (plays_on total bytes before some)
-
--- One record refused: that is how the whole ends.
-pub record_refused : (total : ℕ) (bytes : List ℕ) (fault : TapeFault) (before after : Bench) → 0 < length bytes → ◌≡◌ {A = Result (List ℕ) TapeFault × Bench} (Err fault, after) (with_place (total - length bytes) (one_record bytes before)) → ◌≡◌ {A = Outcome} (Err fault, after) (play_rest total bytes before)
-record_refused total bytes fault before after some did = ap (then_on (play_rest total)) did ∙ sym (plays_on total bytes before some)
 
 pub plays_out : (total : ℕ) (bytes : List ℕ) (b : Bench) → length bytes ≡ 0 → play_rest total bytes b ≡ (Ok tt, b)
 unfolding play_from

@@ -4,28 +4,23 @@ use Rattle.std.specs.Borrow.{Bor}
 use Rattle.refusals.specs.declared.Refusal.{Refusal}
 use Rattle.refusals.specs.declared.Refusal.TheVariants.{UnknownKind, TapeEnds, BadNumber}
 use Rattle.tape.specs.declared.record.Kind.{Kind}
-use Rattle.tape.specs.declared.record.Kind.TheVariants.{LoadMoment, GivePulses, GiveLevels, PrintRegisters}
+use Rattle.tape.specs.declared.record.Kind.TheVariants.{LoadMoment, GivePulses, PrintRegisters}
 use Rattle.tape.specs.declared.record.Record.{Record}
-use Rattle.tape.specs.declared.record.Record.TheVariants.{Load, Pulses, Levels, Print}
+use Rattle.tape.specs.declared.record.Record.TheVariants.{Load, Pulses, Print}
 use Rattle.tape.specs.declared.record.TapeRefusal.{TapeRefusal}
 
 -- the tape itself refuses
 abbrev pub by_tape : Refusal → TapeRefusal
 by_tape refusal = record { refusal = refusal }
 
--- 4Dh loads a moment, 50h gives pulses, 57h gives pin levels, 4Ch prints; no other byte begins a record
+-- 4Dh loads a moment, 50h gives pulses, 4Ch prints; no other byte begins a record
 abbrev pub kind_of : ℕ → Result Kind TapeRefusal
-kind_of byte =
-    cond (byte == 0x4D) (Ok LoadMoment)
-    (cond (byte == 0x50) (Ok GivePulses)
-    (cond (byte == 0x57) (Ok GiveLevels)
-    (cond (byte == 0x4C) (Ok PrintRegisters) (Err (by_tape UnknownKind)))))
+kind_of byte = cond (byte == 0x4D) (Ok LoadMoment) (cond (byte == 0x50) (Ok GivePulses) (cond (byte == 0x4C) (Ok PrintRegisters) (Err (by_tape UnknownKind))))
 
 -- the record of a kind with a number
 abbrev pub record_of : Kind → ℕ → Record
 record_of LoadMoment number = Load number
 record_of GivePulses number = Pulses number
-record_of GiveLevels number = Levels number
 record_of PrintRegisters number = Print number
 
 -- What a number has read: its value and the rest of the tape, or a refusal.

@@ -1,8 +1,7 @@
 // Playing a tape on a part.
 ghost use Rattle.std.specs.Prelude.{◌≡◌, ◌+◌, ◌*◌, ◌<◌, ◌≤◌, length, IfOk, Ok, vec_len, vec_capacity, MatchResult};
-ghost use Rattle.rx5c348a.specs.Part.{seen, load_part};
-ghost use Rattle.rx5c_registers.specs.File.{registers};
-ghost use Rattle.tape.specs.Playing.{bench, give_levels, printing, do_record, tape_weekday, one_record, with_place, play_rest, rest_view};
+ghost use Rattle.rx5c348a.specs.Part.{seen, load_part, registers};
+ghost use Rattle.tape.specs.Playing.{bench, printing, do_record, tape_weekday, one_record, with_place, play_rest, rest_view};
 ghost use Rattle.tape.specs.Tapes.{played, play_tape};
 ghost use Rattle.tape.specs.Written.{InOrder};
 
@@ -24,17 +23,9 @@ fn load(moment: u64, part: &mut Rx5c348a) -> Result<(), Refusal>
     part.load(moment, weekday, 0, TWENTY_FOUR_HOURS)
 }
 
-// Gives pin levels. What SO and /INTR then show is not printed.
-fn give_levels(levels: u64, part: &mut Rx5c348a) -> Result<(), Refusal>
-    ensures { (result, seen part.new) ≡ give_levels (seen part.old) levels }
-{
-    part.pins(levels)?;
-    Ok(())
-}
-
 // Registers 0 to 15.
 fn copy_registers(part: &Rx5c348a) -> Result<[u8; 16], Refusal>
-    ensures { result ≡ Ok (registers (seen part.now).file) }
+    ensures { result ≡ Ok (registers (seen part.now)) }
 {
     let mut registers = [0; 16];
     part.look(&mut registers)?;
@@ -65,7 +56,6 @@ fn perform(record: Record, part: &mut Rx5c348a, printed: &mut Vec<u8>) -> Result
     match record {
         Record::Load(moment) => load(moment, part),
         Record::Pulses(count) => part.pulses(count),
-        Record::Levels(levels) => give_levels(levels, part),
         Record::Print(number) => print(number, part, printed),
     }
 }

@@ -1,4 +1,6 @@
 // Two hosts with a session each on one 348A, their calls worked as one list: the end of a minute meets a read.
+#![tactic(auto)]
+
 mod calls;
 mod lines;
 
@@ -8,7 +10,7 @@ use host_runs::session::HostSession;
 use host_runs::work::{Hosts, work_host_calls};
 use host_sessions::idle::IdleSession;
 use lines::{print_answer, print_buffer, print_call};
-use rx5c348a::part::Rx5c348a;
+use rx5c348a_whole::part::Rx5c348a;
 
 fn fresh_hosts() -> Hosts {
     Hosts {

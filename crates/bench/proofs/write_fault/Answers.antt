@@ -5,8 +5,8 @@ use Rattle.refusals.specs.Numbers.{number_of}
 use Rattle.bench.proofs.write_fault.Goals as goal
 
 -- the line ends within its buffer
-pub slice-bounds-write-all-end : goal.slice-bounds-write-all-end
-slice-bounds-write-all-end c =
+pub slice_bounds-write_all-end : goal.slice_bounds-write_all-end
+slice_bounds-write_all-end c =
     let fault = c.args.fault in
-    let within : c.in-ok-length.length ≤ length c.line.new.out = length_within (fault_text (number_of fault.refusal) fault.place fault.origin) _ (replicate 64 0) _ (omega arith) c.line.ensures _ c.in-ok-length.was in
+    let within : c.in_ok-length.length ≤ length c.line.new.out = length_within (fault_text (number_of fault.refusal) fault.place fault.origin) _ (replicate 64 0) _ (omega arith) c.line.ensures _ c.in_ok-length.was in
     search rules

@@ -8,8 +8,8 @@ use Rattle.calendar.proofs.dates.days_before.Goals as goal
 pub loop-earlier-init : goal.loop-earlier-init
 loop-earlier-init c = omega (arith, start_none (month_lengths (leap c.args.year)))
 
-pub overflow-add-days : goal.overflow-add-days
-overflow-add-days c =
+pub overflow_add-days : goal.overflow_add-days
+overflow_add-days c =
     omega (
       arith,
       year_at_most (leap c.args.year),

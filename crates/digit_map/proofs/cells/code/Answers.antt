@@ -6,8 +6,8 @@ use Rattle.digit_map.proofs.cells.code.Goals as goal
 
 pub row-requires : goal.row-requires
 row-requires c =
-    omega (arith, ap (λ f. f.on.year) c.date-and-time.ensures, year_in_cycle 100 c.args.moment (omega arith))
+    omega (arith, ap (λ f. f.on.year) c.date_and_time.ensures, year_in_cycle 100 c.args.moment (omega arith))
 
 pub returns : goal.returns
 returns c =
-    c.row.ensures ∙ ap (λ f. row c.args.mode (fields f c.args.weekday)) c.date-and-time.ensures
+    c.row.ensures ∙ ap (λ f. row c.args.mode (fields f c.args.weekday)) c.date_and_time.ensures

@@ -1,6 +1,6 @@
 use Rattle.std.proofs.Common.{sym, refl, ap, ◌∙◌, arith, take_all}
 use Rattle.std.proofs.lemmas.List.{take_more}
-use Rattle.rx5c348a.specs.Part.{seen}
+use Rattle.rx5c348a_whole.specs.Part.{seen}
 use Rattle.rx5c348a_runs.specs.declared.call.WireCall.TheVariants.{Load}
 use Rattle.rx5c348a_runs.proofs.Runs.{part_law}
 use Rattle.host_runs.specs.declared.call.HostCall.TheVariants.{Wire}
@@ -17,16 +17,16 @@ loop-call-init c =
     let start = host_state (seat c.args.hosts.first) (seat c.args.hosts.second) (seen c.args.part.now) c.args.buffer.now in
     (omega arith, made.len, made.capacity, run_none start ∙ ap (λ items. (items, start)) (sym made.items))
 
-pub push-reserved-requires : goal.push-reserved-requires
-push-reserved-requires c = omega (arith, c.loop-call.invariant.1, c.loop-call.invariant.2, c.loop-call-test.true)
+pub push_reserved-requires : goal.push_reserved-requires
+push_reserved-requires c = omega (arith, c.loop-call.invariant.1, c.loop-call.invariant.2, c.loop-call-test.true)
 
 pub loop-call-preserved : goal.loop-call-preserved
 loop-call-preserved c =
     let inv = c.loop-call.invariant in (
       omega (arith, c.loop-call-test.true),
-      omega (arith, c.push-reserved.ensures.len),
-      omega (arith, c.push-reserved.ensures.capacity),
-      run_more _ _ _ _ _ _ _ _ _ (take_more c.args.calls.now c.loop-call.call-index (Wire (Load 0 0 0 0)) c.loop-call-test.true) inv.3 c.work-one-answer.ensures c.push-reserved.ensures.items,
+      omega (arith, c.push_reserved.ensures.len),
+      omega (arith, c.push_reserved.ensures.capacity),
+      run_more _ _ _ _ _ _ _ _ _ (take_more c.args.calls.now c.loop-call.call-index (Wire (Load 0 0 0 0)) c.loop-call-test.true) inv.3 c.work_one-answer.ensures c.push_reserved.ensures.items,
     )
 
 pub returns : goal.returns

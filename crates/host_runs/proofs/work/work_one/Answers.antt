@@ -3,4 +3,4 @@ use Rattle.host_runs.proofs.work.work_one.Goals as goal
 
 pub returns : goal.returns
 unfolding work_one
-returns c = c.do-host-call.ensures
+returns c = c.do_host_call.ensures

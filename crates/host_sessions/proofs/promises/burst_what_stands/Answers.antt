@@ -1,4 +1,4 @@
-use Rattle.rx5c348a.specs.Part.{seen}
+use Rattle.rx5c348a_whole.specs.Part.{seen}
 use Rattle.host_wires.specs.Record.{Wired, wired}
 use Rattle.host_sessions.specs.Sessions.{burst_read}
 use Rattle.host_sessions.proofs.DrivenLaws.{burst_read_driven}
@@ -9,9 +9,9 @@ pub returns : goal.returns
 unfolding burst_read
 returns c =
     let before : Wired = wired c.args.pins.now (seen c.args.part.now) in
-    let after : Wired = wired c.read-burst.new.pins (seen c.read-burst.new.part) in
+    let after : Wired = wired c.read_burst.new.pins (seen c.read_burst.new.part) in
     record {
-      value = c.read-burst.ensures;
-      law = burst_reads c.args.address c.args.buffer.now before after c.read-burst.result c.read-burst.new.buffer c.read-burst.ensures;
-      driven = burst_read_driven c.args.address c.args.buffer.now before after c.read-burst.result c.read-burst.new.buffer c.read-burst.ensures;
+      value = c.read_burst.ensures;
+      law = burst_reads c.args.address c.args.buffer.now before after c.read_burst.result c.read_burst.new.buffer c.read_burst.ensures;
+      driven = burst_read_driven c.args.address c.args.buffer.now before after c.read_burst.result c.read_burst.new.buffer c.read_burst.ensures;
     }

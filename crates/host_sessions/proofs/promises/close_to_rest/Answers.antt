@@ -1,4 +1,4 @@
-use Rattle.rx5c348a.specs.Part.{seen}
+use Rattle.rx5c348a_whole.specs.Part.{seen}
 use Rattle.host_wires.specs.Record.{Wired, wired}
 use Rattle.host_sessions.specs.Sessions.{closed}
 use Rattle.host_sessions.proofs.DrivenLaws.{close_driven}
@@ -9,9 +9,9 @@ pub returns : goal.returns
 unfolding closed
 returns c =
     let before : Wired = wired c.args.pins.now (seen c.args.part.now) in
-    let after : Wired = wired c.drive-closing.new.pins (seen c.drive-closing.new.part) in
+    let after : Wired = wired c.drive_closing.new.pins (seen c.drive_closing.new.part) in
     record {
-      value = c.drive-closing.ensures;
-      law = closes before after c.drive-closing.ensures;
-      driven = close_driven before after c.drive-closing.ensures;
+      value = c.drive_closing.ensures;
+      law = closes before after c.drive_closing.ensures;
+      driven = close_driven before after c.drive_closing.ensures;
     }

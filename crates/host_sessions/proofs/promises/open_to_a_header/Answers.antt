@@ -1,4 +1,4 @@
-use Rattle.rx5c348a.specs.Part.{seen}
+use Rattle.rx5c348a_whole.specs.Part.{seen}
 use Rattle.host_wires.specs.Record.{Wired, wired}
 use Rattle.host_sessions.specs.Sessions.{opened}
 use Rattle.host_sessions.proofs.DrivenLaws.{open_driven}
@@ -9,9 +9,9 @@ pub returns : goal.returns
 unfolding opened
 returns c =
     let before : Wired = wired c.args.pins.now (seen c.args.part.now) in
-    let after : Wired = wired c.drive-opening.new.pins (seen c.drive-opening.new.part) in
+    let after : Wired = wired c.drive_opening.new.pins (seen c.drive_opening.new.part) in
     record {
-      value = c.drive-opening.ensures;
-      law = opens before after c.drive-opening.ensures;
-      driven = open_driven before after c.drive-opening.ensures;
+      value = c.drive_opening.ensures;
+      law = opens before after c.drive_opening.ensures;
+      driven = open_driven before after c.drive_opening.ensures;
     }

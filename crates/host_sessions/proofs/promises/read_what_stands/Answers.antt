@@ -1,4 +1,4 @@
-use Rattle.rx5c348a.specs.Part.{seen}
+use Rattle.rx5c348a_whole.specs.Part.{seen}
 use Rattle.host_wires.specs.Record.{Wired, wired}
 use Rattle.host_sessions.specs.Sessions.{single_read}
 use Rattle.host_sessions.proofs.DrivenLaws.{read_driven}
@@ -9,9 +9,9 @@ pub returns : goal.returns
 unfolding single_read
 returns c =
     let before : Wired = wired c.args.pins.now (seen c.args.part.now) in
-    let after : Wired = wired c.read-single.new.pins (seen c.read-single.new.part) in
+    let after : Wired = wired c.read_single.new.pins (seen c.read_single.new.part) in
     record {
-      value = c.read-single.ensures;
-      law = reads c.args.address before after c.read-single.result c.read-single.ensures;
-      driven = read_driven c.args.address before after c.read-single.result c.read-single.ensures;
+      value = c.read_single.ensures;
+      law = reads c.args.address before after c.read_single.result c.read_single.ensures;
+      driven = read_driven c.args.address before after c.read_single.result c.read_single.ensures;
     }

@@ -1,5 +1,5 @@
 use Rattle.std.proofs.Common.{◌≡◌, ◌≤◌, length, take, vec_items, vec_len, vec_capacity}
-use Rattle.rx5c348a.specs.Part.{seen}
+use Rattle.rx5c348a_whole.specs.Part.{seen}
 use Rattle.timekeeping.specs.Logs.{outcome}
 use Rattle.rx5c348a_runs.specs.Calls.{part_machine}
 use Rattle.rx5c348a_runs.proofs.work.work_calls.Given as goal

@@ -19,16 +19,16 @@ loop-month-preserved c =
     omega (arith, month_more (leap c.args.year) c.loop-month.month (omega arith) (omega arith))
 
 -- past the loop what is left falls in December
-pub overflow-cast-result-2 : goal.overflow-cast-result-2
-overflow-cast-result-2 c = omega (arith, in_december (leap c.args.year) c.loop-month.month c.loop-month.rest c.args.day (omega arith) (omega arith) c.requires)
+pub overflow_cast-result-2 : goal.overflow_cast-result-2
+overflow_cast-result-2 c = omega (arith, in_december (leap c.args.year) c.loop-month.month c.loop-month.rest c.args.day (omega arith) (omega arith) c.requires)
 
-pub overflow-add-result-2 : goal.overflow-add-result-2
-overflow-add-result-2 c = omega (arith, in_december (leap c.args.year) c.loop-month.month c.loop-month.rest c.args.day (omega arith) (omega arith) c.requires)
+pub overflow_add-result-2 : goal.overflow_add-result-2
+overflow_add-result-2 c = omega (arith, in_december (leap c.args.year) c.loop-month.month c.loop-month.rest c.args.day (omega arith) (omega arith) c.requires)
 
-pub invariant-of-result-2 : goal.invariant-of-result-2
-invariant-of-result-2 c =
+pub invariant_of-result-2 : goal.invariant_of-result-2
+invariant_of-result-2 c =
     let h = in_december (leap c.args.year) c.loop-month.month c.loop-month.rest c.args.day (omega arith) (omega arith) c.requires in
-    (omega arith, (omega arith, (omega arith, (omega (arith, h), tt))))
+    record { from_january = omega arith; to_december = omega arith; from_first = omega arith; to_last = omega (arith, h) }
 
 pub returns : goal.returns
 returns c =

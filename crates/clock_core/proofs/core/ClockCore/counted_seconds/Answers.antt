@@ -8,4 +8,4 @@ pub returns-then-self : goal.returns-then-self
 returns-then-self g c =
     let shows = g.met.M.RegisterMap.shows c.args.self.now.map in
     counted_waiting g.M.RegisterMap.chart g.met.M.RegisterMap.lawful _ _ _ _ c.if-self.true
-    (c.in-Some.ensures ∙ ap (option_map second_of) shows) c.value-after.ensures
+    (c.in-Some.ensures ∙ ap (option_map second_of) shows) c.value_after.ensures

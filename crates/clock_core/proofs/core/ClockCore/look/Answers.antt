@@ -17,7 +17,7 @@ pub returns : goal.returns
 returns g c =
     let few = g.met.M.RegisterMap.lawful.few_cells in
     let whole = g.met.M.RegisterMap.whole c.args.self.now.map in
-    c.copy-front.ensures
+    c.copy_front.ensures
     ∙ ap (λ (row : List ℕ). copied_front row c.args.buffer.now)
     (copy_whole (registers (meant g.M.RegisterMap c.args.self.now)) _ _ c.loop-i.i c.loop-i.invariant.1 (omega arith)
     (filled_length (g.M.RegisterMap.cells c.args.self.now.map) (omega arith)) (omega arith))

@@ -5,7 +5,7 @@ use Rattle.clock_core.proofs.core.ClockCore.pulses.Goals as goal
 pub loop-left-preserved : goal.loop-left-preserved
 loop-left-preserved g c =
     let run =
-    pulses_run g.M.RegisterMap.chart _ _ _ _ c.run-to-boundary-left.ensures c.loop-left.self.within_second c.loop-left-test.true in
+    pulses_run g.M.RegisterMap.chart _ _ _ _ c.run_to_boundary-left.ensures c.loop-left.self.within_second c.loop-left-test.true in
     (omega arith, run.1 ∙ c.loop-left.invariant.1)
 
 pub returns : goal.returns

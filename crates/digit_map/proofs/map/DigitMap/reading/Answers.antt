@@ -3,23 +3,23 @@ use Rattle.std.proofs.lemmas.Bool.{eq-eqb, lt-ltb, le-ltb}
 use Rattle.digit_map.specs.Cells.{fields_in, row_read}
 use Rattle.digit_map.proofs.map.DigitMap.reading.Goals as goal
 
-pub returns-in-err-time : goal.returns-in-err-time
+pub returns-in_err-time : goal.returns-in_err-time
 unfolding row_read fields_in
-returns-in-err-time c = rw (eq-eqb (length c.args.self.now.cells) 13 c.args.self.now.thirteen, c.from-residual.ensures, ← c.in-err-time.ensures)
+returns-in_err-time c = rw (eq-eqb (length c.args.self.now.cells) 13 c.args.self.now.thirteen, c.from_residual.ensures, ← c.in_err-time.ensures)
 
-pub returns-in-err-date : goal.returns-in-err-date
+pub returns-in_err-date : goal.returns-in_err-date
 unfolding row_read fields_in
-returns-in-err-date c =
-    rw (eq-eqb (length c.args.self.now.cells) 13 c.args.self.now.thirteen, c.from-residual-in-err-date.ensures, ← c.in-ok-time.ensures, ← c.in-err-date.ensures)
+returns-in_err-date c =
+    rw (eq-eqb (length c.args.self.now.cells) 13 c.args.self.now.thirteen, c.from_residual-in_err-date.ensures, ← c.in_ok-time.ensures, ← c.in_err-date.ensures)
 
-pub returns-then-weekday-ge-DAYS-OF-A-WEEK : goal.returns-then-weekday-ge-DAYS-OF-A-WEEK
+pub returns-then-weekday-ge-DAYS_OF_A_WEEK : goal.returns-then-weekday-ge-DAYS_OF_A_WEEK
 unfolding row_read fields_in
-returns-then-weekday-ge-DAYS-OF-A-WEEK c =
+returns-then-weekday-ge-DAYS_OF_A_WEEK c =
     let late : 7 ≤ get_or c.args.self.now.cells 12 0 = omega arith in
-    rw (eq-eqb (length c.args.self.now.cells) 13 c.args.self.now.thirteen, ← c.in-ok-time.ensures, ← c.in-ok-date.ensures, le-ltb (get_or c.args.self.now.cells 12 0) 7 late)
+    rw (eq-eqb (length c.args.self.now.cells) 13 c.args.self.now.thirteen, ← c.in_ok-time.ensures, ← c.in_ok-date.ensures, le-ltb (get_or c.args.self.now.cells 12 0) 7 late)
 
 pub returns : goal.returns
 unfolding row_read fields_in
 returns c =
     let early : get_or c.args.self.now.cells 12 0 < 7 = omega arith in
-    rw (eq-eqb (length c.args.self.now.cells) 13 c.args.self.now.thirteen, ← c.in-ok-time.ensures, ← c.in-ok-date.ensures, lt-ltb (get_or c.args.self.now.cells 12 0) 7 early)
+    rw (eq-eqb (length c.args.self.now.cells) 13 c.args.self.now.thirteen, ← c.in_ok-time.ensures, ← c.in_ok-date.ensures, lt-ltb (get_or c.args.self.now.cells 12 0) 7 early)

@@ -5,7 +5,7 @@ use Rattle.host_wires.proofs.record.PinRecord.clock_bits_in.Goals as goal
 pub loop-left-preserved : goal.loop-left-preserved
 loop-left-preserved c = (
   omega arith,
-  in_more c.args.byte c.loop-left.left c.bit_set.result _ _ (omega arith) c.bit_set.ensures c.clock-in.ensures ∙ c.loop-left.invariant.1,
+  in_more c.args.byte c.loop-left.left c.bit_set.result _ _ (omega arith) c.bit_set.ensures c.clock_in.ensures ∙ c.loop-left.invariant.1,
 )
 
 pub returns : goal.returns

@@ -5,8 +5,8 @@ use Rattle.host_wires.proofs.record.PinRecord.clock_bits_out.Goals as goal
 
 pub loop-left-preserved : goal.loop-left-preserved
 loop-left-preserved c =
-    out_more c.loop-left.left c.loop-left.gathered c.taken-in-gathered.result _ _ _ (omega arith) c.clock-out.ensures
-    (c.taken-in-gathered.ensures ∙ ap (taken c.loop-left.gathered) c.number.ensures)
+    out_more c.loop-left.left c.loop-left.gathered c.taken_in-gathered.result _ _ _ (omega arith) c.clock_out.ensures
+    (c.taken_in-gathered.ensures ∙ ap (taken c.loop-left.gathered) c.number.ensures)
     ∙ c.loop-left.invariant
 
 pub returns : goal.returns

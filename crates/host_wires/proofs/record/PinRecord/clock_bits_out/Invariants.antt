@@ -1,6 +1,6 @@
 use Rattle.std.proofs.Common.{◌≡◌}
 use Rattle.serial_transfer.specs.Bytes.{spelt}
-use Rattle.rx5c348a.specs.Part.{seen}
+use Rattle.rx5c348a_whole.specs.Part.{seen}
 use Rattle.host_wires.specs.Record.{wired}
 use Rattle.host_wires.specs.Shifting.{levels_out, spelt_out}
 use Rattle.host_wires.proofs.record.PinRecord.clock_bits_out.Given as goal

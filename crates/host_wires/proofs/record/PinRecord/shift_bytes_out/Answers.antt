@@ -1,5 +1,5 @@
 use Rattle.std.proofs.Common.{[], refl, arith}
-use Rattle.rx5c348a.specs.Part.{seen}
+use Rattle.rx5c348a_whole.specs.Part.{seen}
 use Rattle.host_wires.specs.Record.{wired}
 use Rattle.host_wires.specs.Shifting.{bytes_out}
 use Rattle.host_wires.proofs.Clocks.{out_filled, out_full}
@@ -12,7 +12,7 @@ loop-i-init c = (refl, refl)
 
 pub loop-i-preserved : goal.loop-i-preserved
 loop-i-preserved c =
-    out_filled c.loop-i.i (wired c.args.self.now (seen c.args.part.now)) _ _ c.args.buffer.now _ _ (omega arith) c.loop-i.invariant.0 c.loop-i.invariant.1 c.shift-out.ensures.value
+    out_filled c.loop-i.i (wired c.args.self.now (seen c.args.part.now)) _ _ c.args.buffer.now _ _ (omega arith) c.loop-i.invariant.0 c.loop-i.invariant.1 c.shift_out.ensures.value
 
 pub returns : goal.returns
 returns c =

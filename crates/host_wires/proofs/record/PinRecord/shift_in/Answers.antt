@@ -1,5 +1,5 @@
 use Rattle.std.proofs.Common.{ap}
-use Rattle.rx5c348a.specs.Part.{seen}
+use Rattle.rx5c348a_whole.specs.Part.{seen}
 use Rattle.host_wires.specs.Record.{Wired, wired}
 use Rattle.host_wires.proofs.Wholes.{arrives}
 use Rattle.host_wires.proofs.record.PinRecord.shift_in.Goals as goal
@@ -7,6 +7,6 @@ use Rattle.host_wires.proofs.record.PinRecord.shift_in.Goals as goal
 pub returns : goal.returns
 returns c =
     record {
-      value = c.clock-bits-in.ensures;
-      law = arrives c.args.byte (wired c.args.self.now (seen c.args.part.now)) _ c.ranges.byte.fits c.args.part.now.registers.core.map.seven c.args.part.now.registers.two_rows (ap (λ (w : Wired). w.part) c.clock-bits-in.ensures);
+      value = c.clock_bits_in.ensures;
+      law = arrives c.args.byte (wired c.args.self.now (seen c.args.part.now)) _ c.ranges.byte.fits c.args.part.now.registers.core.map.seven c.args.part.now.registers.two_rows (ap (λ (w : Wired). w.part) c.clock_bits_in.ensures);
     }

@@ -11,7 +11,7 @@ returns t c =
     let n = c.args.number in
     let fits : n < 2 ^ 64 = c.ranges.number.fits in
     record {
-      text = c.push-2.ensures.text ∙ ap (λ (l : List ℕ). l ++ (48 + n % 10) ∷ []) c.push-decimal.ensures.text ∙ last_digit (text c.args.self.now) n (omega arith) fits;
+      text = c.push-2.ensures.text ∙ ap (λ (l : List ℕ). l ++ (48 + n % 10) ∷ []) c.push_decimal.ensures.text ∙ last_digit (text c.args.self.now) n (omega arith) fits;
       end = omega (arith, digits_so_far n (omega arith) fits);
       short = at_most_twenty n fits;
     }

@@ -8,7 +8,7 @@ pub loop-byte-preserved : goal.loop-byte-preserved
 loop-byte-preserved c =
     let bytes = c.args.bytes.now in
     let i = c.loop-byte.byte-index in (
-      c.push-hexadecimal-byte.ensures.text ∙ ap (λ (l : List ℕ). l ++ hex_byte (get_or bytes i 0)) c.loop-byte.invariant.0 ∙ joined_further hex_byte (text c.args.self.now) bytes i c.loop-byte-test.true,
+      c.push_hexadecimal_byte.ensures.text ∙ ap (λ (l : List ℕ). l ++ hex_byte (get_or bytes i 0)) c.loop-byte.invariant.0 ∙ joined_further hex_byte (text c.args.self.now) bytes i c.loop-byte-test.true,
       omega arith,
     )
 

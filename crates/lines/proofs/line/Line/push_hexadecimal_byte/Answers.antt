@@ -6,6 +6,6 @@ use Rattle.lines.proofs.line.Line.push_hexadecimal_byte.Goals as goal
 pub returns : goal.returns
 returns c =
     record {
-      text = two_more (text c.args.self.now) _ _ _ _ _ _ c.push.ensures.text c.hexadecimal-digit.ensures c.push-2.ensures.text c.hexadecimal-digit-2.ensures;
+      text = two_more (text c.args.self.now) _ _ _ _ _ _ c.push.ensures.text c.hexadecimal_digit.ensures c.push-2.ensures.text c.hexadecimal_digit-2.ensures;
       end = omega arith;
     }

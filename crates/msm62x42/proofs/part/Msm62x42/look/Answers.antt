@@ -14,6 +14,6 @@ loop-i-preserved c =
 pub returns : goal.returns
 returns c =
     let whole : length (registers (seen c.args.self.now)) ≡ 16 = simp length-append (omega (arith, c.args.self.now.core.map.thirteen)) in
-    c.copy-front.ensures
+    c.copy_front.ensures
     ∙ ap (λ (row : List ℕ). copied_front row c.args.buffer.now)
     (copy_whole (registers (seen c.args.self.now)) _ _ c.loop-i.i c.loop-i.invariant.1 (omega arith) whole (omega arith))

@@ -7,7 +7,7 @@ use Rattle.rx5c_registers.proofs.file.RegisterFile.release.Goals as goal
 pub returns : goal.returns
 returns c =
     record {
-      value = c.let-go.ensures;
+      value = c.let_go.ensures;
       alarms = λ held.
-          subst (AlarmsRingAtRelease (file_seen c.args.self.now)) (sym c.let-go.ensures) (alarms_ring_at_release (file_seen c.args.self.now) held);
+          subst (AlarmsRingAtRelease (file_seen c.args.self.now)) (sym c.let_go.ensures) (alarms_ring_at_release (file_seen c.args.self.now) held);
     }

@@ -7,7 +7,7 @@ use Rattle.rx5c_registers.proofs.file.RegisterFile.take_pulses.Goals as goal
 
 pub loop-left-preserved : goal.loop-left-preserved
 loop-left-preserved c =
-    let run = taken_run _ _ _ _ c.run-to-boundary-left.ensures c.loop-left.self.core.within_second c.loop-left-test.true in
+    let run = taken_run _ _ _ _ c.run_to_boundary-left.ensures c.loop-left.self.core.within_second c.loop-left-test.true in
     run.1 ∙ c.loop-left.invariant
 
 pub returns : goal.returns

@@ -5,7 +5,7 @@ use Rattle.serial_transfer.proofs.transfer.Transfer.clock_bits_in.Goals as goal
 
 pub loop-left-preserved : goal.loop-left-preserved
 loop-left-preserved c =
-    (omega arith, in_more c.args.byte c.loop-left.left _ _ _ _ _ _ (omega arith) c.bit-of.ensures c.clock-in.ensures c.or-landing.ensures ∙ c.loop-left.invariant.1)
+    (omega arith, in_more c.args.byte c.loop-left.left _ _ _ _ _ _ (omega arith) c.bit_of.ensures c.clock_in.ensures c.or-landing.ensures ∙ c.loop-left.invariant.1)
 
 pub returns : goal.returns
 returns c =

@@ -7,8 +7,8 @@ use Rattle.serial_transfer.proofs.transfer.Transfer.clock_bits_out.Goals as goal
 pub loop-left-preserved : goal.loop-left-preserved
 loop-left-preserved c =
     let more =
-    out_more c.args.due_byte c.loop-left.left c.loop-left.gathered c.taken-in-gathered.result _ _ _ (omega arith) c.clock-out.ensures
-    (c.taken-in-gathered.ensures ∙ ap (taken c.loop-left.gathered) c.number.ensures) in
+    out_more c.args.due_byte c.loop-left.left c.loop-left.gathered c.taken_in-gathered.result _ _ _ (omega arith) c.clock_out.ensures
+    (c.taken_in-gathered.ensures ∙ ap (taken c.loop-left.gathered) c.number.ensures) in
     (more.0 ∙ c.loop-left.invariant.0, more.1 ∙ c.loop-left.invariant.1)
 
 pub returns : goal.returns

@@ -9,7 +9,7 @@ loop-i-init c = bytes_in_none c.args.self.now.phase c.args.landings.now
 pub loop-i-preserved : goal.loop-i-preserved
 loop-i-preserved c =
     bytes_in_more c.args.bytes.now c.loop-i.i c.args.self.now.phase _ _ c.args.landings.now _ _ (omega arith) (omega arith) c.loop-i.invariant.0 c.loop-i.invariant.1
-    c.shift-in.ensures.value
+    c.shift_in.ensures.value
 
 pub returns : goal.returns
 returns c =
@@ -20,6 +20,6 @@ returns c =
       landed = landed;
       after = after;
       law =
-          burst_in c.args.bytes.now c.args.count c.args.self.now.phase c.args.landings.now _ _ (λ i. (c.type-inv.bytes i).fits) (omega arith)
+          burst_in c.args.bytes.now c.args.count c.args.self.now.phase c.args.landings.now _ _ (λ i. (c.type_inv.bytes i).fits) (omega arith)
           c.args.self.now.four_bits landed after;
     }

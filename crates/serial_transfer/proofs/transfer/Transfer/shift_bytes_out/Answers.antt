@@ -8,7 +8,7 @@ loop-i-init c = registers_out_none c.args.registers.now c.args.self.now.phase c.
 pub loop-i-preserved : goal.loop-i-preserved
 loop-i-preserved c =
     registers_out_more c.args.registers.now c.loop-i.i c.args.self.now.phase _ _ c.args.given.now _ _ (omega arith) c.loop-i.invariant.0 c.loop-i.invariant.1
-    c.shift-register-out.ensures
+    c.shift_register_out.ensures
 
 pub returns : goal.returns
 returns c =
