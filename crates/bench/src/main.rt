@@ -13,7 +13,7 @@ use tape::play::play;
 const ENOUGH: u64 = 4097;
 
 // What ends the program with status 1; a fault of the tape does not.
-#[derive(Drop)]
+#[derive(Debug, Drop)]
 enum BenchError {
     Io(io::Error),
     NoMemory,

@@ -10,8 +10,8 @@ ghost use Rattle.host_runs.specs.Levels.{on_wires, part_after};
 
 use crate::call::{HostAnswer, HostCall};
 use crate::session::HostSession;
-use rx5c348a_whole::part::Rx5c348a;
 use rx5c348a_runs::work::do_call;
+use rx5c348a_whole::part::Rx5c348a;
 use std::alloc::{AllocError, Global};
 
 // The sessions of two hosts on one part.

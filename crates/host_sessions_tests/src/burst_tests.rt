@@ -2,6 +2,7 @@
 use crate::host::*;
 use host_sessions::idle::IdleSession;
 use serial_transfer::phase::SerialOut;
+use std::test::Fail;
 
 // An empty burst drives its header, and answers 0: the part is then in data.
 #[test]

@@ -3,6 +3,7 @@ use crate::host::*;
 use host_sessions::idle::IdleSession;
 use refusals::Refusal;
 use rx5c348a_whole::part::Rx5c348a;
+use std::test::Fail;
 
 const SCRATCH1: u8 = 0x20;
 

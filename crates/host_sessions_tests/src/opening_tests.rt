@@ -3,6 +3,7 @@ use crate::host::*;
 use host_sessions::idle::IdleSession;
 use rx5c348a_whole::part::Rx5c348a;
 use std::process::Abort;
+use std::test::Fail;
 
 // Opens a session on a part in any state: a header is awaited, the record has CE alone, and reads serve.
 fn opens_well(rt: &impl Abort, part: &mut Rx5c348a, trim: u8) {

@@ -1,5 +1,6 @@
 // A carry through six digits, met at every pulse around a read of all thirteen.
 use crate::host::*;
+use std::test::Fail;
 
 const BEFORE: [u8; 6] = [9, 5, 9, 5, 3, 1];
 

@@ -1,5 +1,6 @@
 // What holds, what releases, and what changes nothing.
 use crate::host::*;
+use std::test::Fail;
 
 // HOLD 1 while held leaves the waiting second waiting.
 #[test]

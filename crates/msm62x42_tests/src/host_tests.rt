@@ -1,5 +1,6 @@
 // The traffic of a host: HOLD, BUSY, all digits, HOLD cleared.
 use crate::host::*;
+use std::test::Fail;
 
 // Dh reads 2 while released and 1 while held; the interrupt flag's bit is ignored and reads 0.
 #[test]

@@ -1,6 +1,7 @@
 // Power-on, the hour mode and the control registers' other bits.
 use crate::host::*;
 use msm62x42::part::Msm62x42;
+use std::test::Fail;
 
 // All zero but BUSY; no moment is shown, so pulses change no register.
 #[test]

@@ -3,6 +3,7 @@ use crate::host::*;
 use msm62x42_runs::call::PartCall;
 use msm62x42_runs::work::work_calls;
 use refusals::Refusal;
+use std::test::Fail;
 use timekeeping::call::CoreAnswer;
 
 // Held over the end of an hour and read, with refusals among them.

@@ -1,6 +1,7 @@
 // What each call refuses, by number, and that a refused call changes nothing.
 use crate::host::*;
 use refusals::Refusal;
+use std::test::Fail;
 
 // The number of a refusal, or 0.
 fn number(res: Result<(), Refusal>) -> u8 {

@@ -2,6 +2,7 @@
 use crate::host::*;
 use rx5c348a_whole::part::Rx5c348a;
 use std::process::Abort;
+use std::test::Fail;
 
 // 19 July 2026, 00:00:00, a Sunday.
 const SUNDAY_MIDNIGHT: u64 = MIDNIGHT + 2 * 86_400;

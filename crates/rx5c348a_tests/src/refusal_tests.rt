@@ -2,6 +2,7 @@
 use crate::host::*;
 use refusals::Refusal;
 use rx5c348a_whole::part::Rx5c348a;
+use std::test::Fail;
 
 // The number of a refusal, or 0.
 fn number(res: Result<(), Refusal>) -> u8 {

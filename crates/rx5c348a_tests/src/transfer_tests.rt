@@ -1,5 +1,6 @@
 // The four formats as the chip is described by them, level by level.
 use crate::host::*;
+use std::test::Fail;
 
 // A write of Fh, then one of 7.
 #[test]

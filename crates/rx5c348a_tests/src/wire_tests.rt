@@ -1,9 +1,14 @@
 // The edges of CE and SCLK, one by one.
 use crate::host::*;
 use std::process::Abort;
+use std::test::Fail;
 
 // A byte of which no bit is heard, and none given.
-fn unheard(rt: &impl Abort, part: &mut rx5c348a_whole::part::Rx5c348a, byte: u8) -> Result<(), Fail> {
+fn unheard(
+    rt: &impl Abort,
+    part: &mut rx5c348a_whole::part::Rx5c348a,
+    byte: u8,
+) -> Result<(), Fail> {
     for k in 0..8u8 {
         assert_eq!(rt; clock(part, (byte >> (7 - k)) & 1)?, (OFF, OFF));
     }
