@@ -1,12 +1,11 @@
 // The byte map: its cells and hour mode, what they show, and the calls of a register map.
-ghost use Rattle.std.specs.Prelude.{◌≡◌, ◌%◌, ◌<◌, length, replicate, Some, slice_index, slice_set};
+ghost use Rattle.std.specs.Prelude.{◌≡◌, ◌%◌, ◌<◌, length, replicate, Some, slice_index, slice_set, refl};
 ghost use Rattle.std.specs.Option.{option_map};
 ghost use Rattle.register_map.specs.Chart.{advanced, map_state, weekday_after};
 ghost use Rattle.register_map.specs.declared.hour_mode.HourMode.TheVariants.{Twelve};
 ghost use Rattle.calendar.specs.Views.{date_of, time_of, fields_read};
 ghost use Rattle.byte_map.specs.Cells.{number_cell, month_cell, time_in, date_in, row_read, byte_chart};
 ghost use Rattle.byte_map.specs.RowLaws.{byte_chart_lawful};
-ghost use Rattle.std.proofs.Common.{rules, arith};
 
 use crate::cells::{
     AFTERNOON, CENTURY, DAY, HOURS, MINUTES, MONTH, SECONDS, USED_BITS, WEEKDAY, YEAR, code,
@@ -137,9 +136,9 @@ impl RegisterMap for ByteMap {
 
     ghost lawful = { byte_chart_lawful };
 
-    ghost shows = { first_of (Prim.search rules, Prim.grind (arith, Self.row.coded.inj)) };
+    ghost shows = { λ _. refl };
 
-    ghost whole = { first_of (Prim.search rules, Prim.grind (arith, Self.row.coded.inj)) };
+    ghost whole = { λ m. m.seven };
 
     fn cell_count() -> usize {
         Self::CELLS

@@ -1,6 +1,6 @@
 -- Pulses one by one, and pulses up to the next boundary.
-use Rattle.std.proofs.Common.{◌≡◌, ℕ, zero, suc, ◌+◌, ◌-◌, ◌<◌, ◌≤◌, Bool, true, false, cond, ltb, Ok, Err, sym, refl, ap, ◌∙◌, subst, arith, ltb-false, ltb-true, le-ltb, lt-ltb}
-use Rattle.register_map.specs.Chart.{Chart, MapState, advanced}
+use Rattle.std.proofs.Common.{◌≡◌, ℕ, zero, suc, ◌+◌, ◌-◌, ◌<◌, ◌≤◌, Bool, true, false, cond, ltb, Ok, Err, sym, refl, ap, ◌∙◌, arith, ltb-false, ltb-true, le-ltb, lt-ltb}
+use Rattle.register_map.specs.Chart.{Chart, advanced}
 use Rattle.refusals.specs.declared.Refusal.TheVariants.{TooManyPulses}
 use Rattle.clock_core.specs.Core.{CoreState, Accepted, with_map, at_position, waiting, begin_second, cross_boundary, one_pulse, many_pulses, run_to_boundary, give_pulses}
 

@@ -4,8 +4,8 @@ use Rattle.refusals.specs.declared.Refusal.{Refusal}
 use Rattle.register_map.specs.Chart.{MapState, map_state}
 use Rattle.register_map.specs.declared.map.RegisterMap.{Ghosts}
 use Rattle.clock_core.specs.Core.{CoreState}
-use Rattle.clock_core.specs.declared.core.ClockCore.{ClockCore}
-use Rattle.clock_core.specs.declared.core.MakeRefused.{MakeRefused}
+use Rattle.clock_core.specs.declared.clock.ClockCore.{ClockCore}
+use Rattle.clock_core.specs.declared.clock.MakeRefused.{MakeRefused}
 
 abbrev pub meant : {M : Type 0} → Ghosts M → ClockCore M → CoreState
 meant g s =

@@ -5,7 +5,7 @@ ghost use Rattle.register_map.specs.Chart.{shown_by};
 ghost use Rattle.clock_core.specs.Core.{begin_second, cross_boundary, pulses_left, run_to_boundary, give_pulses, counted_value};
 ghost use Rattle.clock_core.specs.View.{meant};
 
-use crate::core::ClockCore;
+use crate::clock::ClockCore;
 use crate::seconds::length_of_second;
 use refusals::Refusal;
 use register_map::map::RegisterMap;

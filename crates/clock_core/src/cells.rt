@@ -3,7 +3,7 @@ ghost use Rattle.std.specs.Prelude.{◌≡◌, slice_index};
 ghost use Rattle.clock_core.specs.Core.{read_cell, write_cell, look_at, registers, copied_front};
 ghost use Rattle.clock_core.specs.View.{meant};
 
-use crate::core::ClockCore;
+use crate::clock::ClockCore;
 use refusals::Refusal;
 use register_map::map::RegisterMap;
 

@@ -3,7 +3,7 @@ ghost use Rattle.std.specs.Prelude.{◌≡◌};
 ghost use Rattle.clock_core.specs.Core.{hold_core, release_core};
 ghost use Rattle.clock_core.specs.View.{meant};
 
-use crate::core::ClockCore;
+use crate::clock::ClockCore;
 use refusals::Refusal;
 use register_map::map::RegisterMap;
 

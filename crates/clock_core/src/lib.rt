@@ -3,7 +3,7 @@
 
 pub mod boundary;
 pub mod cells;
-pub mod core;
+pub mod clock;
 pub mod holding;
 pub mod making;
 pub mod seconds;

@@ -4,7 +4,7 @@ ghost use Rattle.register_map.specs.Chart.{map_state};
 ghost use Rattle.clock_core.specs.Core.{make_core, idle_core, load_core, mode_of};
 ghost use Rattle.clock_core.specs.View.{meant, meant_made};
 
-use crate::core::{ClockCore, MakeRefused};
+use crate::clock::{ClockCore, MakeRefused};
 use crate::seconds::PLAIN_SECOND;
 use refusals::Refusal;
 use register_map::hour_mode::HourMode;

@@ -3,7 +3,7 @@ ghost use Rattle.std.specs.Prelude.{◌≡◌};
 ghost use Rattle.clock_core.specs.Core.{set_trim, set_core_mode, restart_second};
 ghost use Rattle.clock_core.specs.View.{meant};
 
-use crate::core::ClockCore;
+use crate::clock::ClockCore;
 use register_map::hour_mode::HourMode;
 use register_map::map::RegisterMap;
 

@@ -1,6 +1,6 @@
 // How a call and its answer are printed.
 use byte_map::map::ByteMap;
-use clock_core::core::ClockCore;
+use clock_core::clock::ClockCore;
 use register_map::hour_mode::HourMode;
 use std::io;
 use timekeeping::call::{CoreAnswer, CoreCall};

@@ -7,7 +7,7 @@ mod lines;
 use anyhow::anyhow;
 use byte_map::map::ByteMap;
 use calls::CALLS;
-use clock_core::core::ClockCore;
+use clock_core::clock::ClockCore;
 use lines::{print_answer, print_call, print_core};
 use register_map::hour_mode::HourMode;
 use register_map::map::RegisterMap;

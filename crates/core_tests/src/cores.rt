@@ -1,6 +1,6 @@
 // Cores for the tests, and what they show.
 use byte_map::map::ByteMap;
-use clock_core::core::ClockCore;
+use clock_core::clock::ClockCore;
 use register_map::hour_mode::HourMode;
 use register_map::map::RegisterMap;
 use std::test::Fail;

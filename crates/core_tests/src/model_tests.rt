@@ -2,7 +2,7 @@
 use crate::model::Model;
 use crate::refusal_tests::refusal_number;
 use byte_map::map::ByteMap;
-use clock_core::core::ClockCore;
+use clock_core::clock::ClockCore;
 use register_map::hour_mode::HourMode;
 use std::process::Abort;
 use std::test::Fail;

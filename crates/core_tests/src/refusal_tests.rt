@@ -1,7 +1,7 @@
 // What each call refuses, by number, and that a refused call changes nothing.
 use crate::cores::{MIDNIGHT, core_at, map_at};
 use byte_map::map::ByteMap;
-use clock_core::core::ClockCore;
+use clock_core::clock::ClockCore;
 use refusals::Refusal;
 use register_map::hour_mode::HourMode;
 use register_map::map::RegisterMap;

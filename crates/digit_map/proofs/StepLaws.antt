@@ -3,7 +3,7 @@ use Rattle.std.proofs.Common.{◌≡◌, ℕ, List, set, Some, sym, ap, ◌∙�
 use Rattle.register_map.specs.Chart.{map_state, weekday_after, advanced}
 use Rattle.register_map.specs.declared.hour_mode.HourMode.{HourMode}
 use Rattle.calendar.specs.Dates.{CivilDate, next_date}
-use Rattle.calendar.specs.Times.{ClockTime, time, second_of_day, next_time}
+use Rattle.calendar.specs.Times.{ClockTime, second_of_day, next_time}
 use Rattle.calendar.specs.Moments.{civil}
 use Rattle.calendar.specs.declared.digits.Digits.{Digits}
 use Rattle.calendar.specs.Digits.{digits_of, hour_digits}

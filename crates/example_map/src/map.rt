@@ -1,9 +1,8 @@
 // The day map: a second, a minute, an hour and a weekday as plain binary numbers, over a cycle of one day.
-ghost use Rattle.std.specs.Prelude.{◌≡◌, length};
+ghost use Rattle.std.specs.Prelude.{◌≡◌, length, refl};
 ghost use Rattle.std.specs.Option.{option_map};
 ghost use Rattle.example_map.specs.Cells.{day_chart};
 ghost use Rattle.example_map.specs.DayLaws.{day_chart_lawful};
-ghost use Rattle.std.proofs.Common.{rules, arith};
 
 use register_map::hour_mode::HourMode;
 use register_map::map::RegisterMap;
@@ -53,9 +52,9 @@ impl RegisterMap for DayMap {
 
     ghost lawful = { day_chart_lawful };
 
-    ghost shows = { first_of (Prim.search rules, Prim.grind (arith, Self.row.coded.inj)) };
+    ghost shows = { λ _. refl };
 
-    ghost whole = { first_of (Prim.search rules, Prim.grind (arith, Self.row.coded.inj)) };
+    ghost whole = { λ m. m.four };
 
     fn cell_count() -> usize {
         Self::CELLS

@@ -1,5 +1,5 @@
 -- Figures established from the definitions of calendar, byte map, core and law.
-use Rattle.std.specs.Prelude.{◌≡◌, ℕ, ◌+◌, List, [], ◌∷◌, pos, neg_ℤ, Some}
+use Rattle.std.specs.Prelude.{◌≡◌, ℕ, List, [], ◌∷◌, pos, neg_ℤ, Some}
 use Rattle.register_map.specs.declared.hour_mode.HourMode.TheVariants.{TwentyFour}
 use Rattle.register_map.specs.Chart.{Chart, Lawful, Shown, MapState, shown_by, second_of, second_after}
 use Rattle.calendar.specs.Dates.{date}

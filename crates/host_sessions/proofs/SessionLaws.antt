@@ -1,16 +1,16 @@
 -- What a host can rely on, from the definitions of the calls.
-use Rattle.std.proofs.Common.{◌≡◌, ℕ, ◌+◌, ◌*◌, ◌%◌, ◌<◌, ◌≤◌, Bool, true, false, cond, ltb, List, [], ◌∷◌, length, get_or, Ok, Err, Result, sym, refl, ap, ◌∙◌, subst, arith, lit<}
+use Rattle.std.proofs.Common.{◌≡◌, ℕ, ◌+◌, ◌*◌, ◌%◌, ◌<◌, ◌≤◌, Bool, true, false, cond, ltb, List, length, get_or, Ok, Err, Result, sym, refl, ap, ◌∙◌, subst, arith, lit<}
 use Rattle.std.proofs.lemmas.Bool.{true≢false, false≢true, lt-ltb, le-ltb}
 use Rattle.refusals.specs.declared.Refusal.{Refusal}
 use Rattle.refusals.specs.declared.Refusal.TheVariants.{NoSuchCell, NoHeaderAwaited}
 use Rattle.clock_core.specs.Core.{Accepted}
 use Rattle.serial_transfer.specs.declared.phase.SerialOut.TheVariants.{Off}
 use Rattle.serial_transfer.specs.declared.phase.Phase.{Phase}
-use Rattle.serial_transfer.specs.declared.phase.Phase.TheVariants.{Idle, Write, Read}
+use Rattle.serial_transfer.specs.declared.phase.Phase.TheVariants.{Write, Read}
 use Rattle.serial_transfer.specs.Rules.{format_coded, data_at, fallen}
 use Rattle.rx5c_registers.specs.File.{FileState, written}
 use Rattle.rx5c_registers.specs.Clock.{held}
-use Rattle.rx5c348a_whole.specs.Part.{PartState, at_rest}
+use Rattle.rx5c348a_whole.specs.Part.{PartState}
 use Rattle.rx5c348a_whole.specs.Pins.{awaits_header, with_landing, pins_part}
 use Rattle.host_wires.specs.declared.record.PinRecord.{PinRecord}
 use Rattle.host_wires.specs.Record.{Wired, wired}
@@ -18,8 +18,8 @@ use Rattle.host_wires.specs.Shifting.{byte_in, byte_out, bytes_in, bytes_out}
 use Rattle.host_wires.specs.Laws.{ready_in, byte_at, written_in_turn, registers_in_turn}
 use Rattle.host_wires.proofs.Wholes.{halves, header_in, data_in, register_out}
 use Rattle.host_wires.proofs.Turns.{all_arrive, all_stand_there}
-use Rattle.host_sessions.specs.Sessions.{accepted, closing, opening, header_for, ended, read_after, reading, write_after, writing, burst_read_after, burst_reading, burst_write_after, burst_writing}
-use Rattle.host_sessions.specs.Laws.{awaiting, Unselected, Opens, Closes, ReadIsWhatStands, WrittenArrives, BurstIsWhatStands, BurstArrives}
+use Rattle.host_sessions.specs.Sessions.{closing, opening, header_for, ended, read_after, reading, write_after, writing, burst_read_after, burst_reading, burst_write_after, burst_writing}
+use Rattle.host_sessions.specs.Laws.{awaiting, Opens, Closes, ReadIsWhatStands, WrittenArrives, BurstIsWhatStands, BurstArrives}
 
 abbrev part_of : FileState → Bool → Bool → Phase → PartState
 part_of f ce sclk phase = record { file = f; ce = ce; sclk = sclk; phase = phase }

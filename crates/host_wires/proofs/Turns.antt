@@ -1,12 +1,10 @@
 -- Bytes in turn: what a burst of any length leaves and gives.
-use Rattle.std.proofs.Common.{◌≡◌, ℕ, zero, suc, ◌+◌, ◌%◌, ◌<◌, ◌≤◌, Bool, true, false, List, [], ◌∷◌, ◌++◌, length, get_or, take, drop, sym, refl, ap, ◌∙◌, ap₂, add-zero, arith}
+use Rattle.std.proofs.Common.{◌≡◌, ℕ, zero, suc, ◌+◌, ◌%◌, ◌<◌, ◌≤◌, true, false, List, [], ◌∷◌, length, get_or, take, sym, refl, ap, ◌∙◌, add-zero, arith}
 use Rattle.std.proofs.lemmas.List.{take_more, take_all}
 use Rattle.serial_transfer.specs.declared.phase.SerialOut.{SerialOut}
-use Rattle.serial_transfer.specs.declared.phase.Phase.{Phase}
 use Rattle.serial_transfer.specs.declared.phase.Phase.TheVariants.{Write, Read}
 use Rattle.serial_transfer.specs.Levels.{bit_at, level_out}
 use Rattle.serial_transfer.specs.Phase.{address_of}
-use Rattle.serial_transfer.specs.Rules.{next_address}
 use Rattle.rx5c_registers.specs.File.{FileState, written}
 use Rattle.rx5c348a_whole.specs.Part.{PartState}
 use Rattle.host_wires.specs.declared.record.PinRecord.{PinRecord}

@@ -1,5 +1,5 @@
 -- The host's pin record, and the two ends of the wires together.
-use Rattle.std.specs.Prelude.{ℕ, ◌+◌, Bool, true, false, cond}
+use Rattle.std.specs.Prelude.{ℕ, ◌+◌, Bool}
 use Rattle.rx5c_registers.specs.File.{bit_if}
 use Rattle.rx5c348a_whole.specs.Part.{PartState}
 use Rattle.host_wires.specs.declared.record.PinRecord.{PinRecord}

@@ -1,14 +1,12 @@
 -- Bits and bytes on the wires, as the levels that the host drives. A bit is SCLK high, then low, with CE high.
-use Rattle.std.specs.Prelude.{ℕ, zero, suc, ◌+◌, Bool, true, false, List, [], ◌∷◌, ◌++◌, length, Ok, Err, Result, ◌==◌}
+use Rattle.std.specs.Prelude.{ℕ, zero, suc, Bool, true, false, List, [], ◌∷◌, Ok, Err, Result, ◌==◌}
 use Rattle.refusals.specs.declared.Refusal.{Refusal}
 use Rattle.serial_transfer.specs.declared.phase.SerialOut.{SerialOut}
 use Rattle.serial_transfer.specs.declared.phase.SerialOut.TheVariants.{Off}
 use Rattle.serial_transfer.specs.Levels.{bit_at}
 use Rattle.serial_transfer.specs.Bytes.{spelt}
 use Rattle.rx5c348a_whole.specs.declared.pins.PinAnswer.{PinAnswer}
-use Rattle.rx5c348a_whole.specs.Part.{PartState}
 use Rattle.rx5c348a_whole.specs.Pins.{pins_part}
-use Rattle.host_wires.specs.declared.record.PinRecord.{PinRecord}
 use Rattle.host_wires.specs.Record.{levels, pin_record, Wired, wired}
 
 -- SO as it is answered; a refused call leaves the host with nothing on it

@@ -5,7 +5,7 @@ ghost use Rattle.msm62x42.specs.Part.{seen, power_on, load_part, pulse_part, rea
 use crate::control::HOLD_REGISTER;
 use crate::part::Msm62x42;
 use clock_core::cells::copy_front;
-use clock_core::core::ClockCore;
+use clock_core::clock::ClockCore;
 use digit_map::map::DigitMap;
 use refusals::Refusal;
 use register_map::map::RegisterMap;

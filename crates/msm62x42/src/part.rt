@@ -1,5 +1,5 @@
 // The part's record: all that it keeps is its core.
-use clock_core::core::ClockCore;
+use clock_core::clock::ClockCore;
 use digit_map::map::DigitMap;
 
 #[derive(Drop)]

@@ -8,10 +8,10 @@ use Rattle.register_map.specs.Chart.{put_byte}
 use Rattle.digit_map.specs.Cells.{digit_chart}
 use Rattle.digit_map.specs.RowLaws.{digit_chart_lawful}
 use Rattle.clock_core.specs.Core.{CoreState, Accepted as Acceptance, with_map, many_pulses, released, set_core_mode, hold_core, release_core, load_refusal, loaded, unless_refused}
-use Rattle.msm62x42.specs.Part.{hour_mode_of, registers, control_registers, written, deselected}
+use Rattle.msm62x42.specs.Part.{hour_mode_of, registers, control_registers, written}
 use Rattle.timekeeping.specs.declared.call.CoreAnswer.{CoreAnswer}
-use Rattle.timekeeping.specs.declared.call.CoreAnswer.TheVariants.{Accepted, Byte, Registers, Refused}
-use Rattle.timekeeping.specs.CoreCalls.{accepted_with, byte_read, same_mode, one_cell, cells_of}
+use Rattle.timekeeping.specs.declared.call.CoreAnswer.TheVariants.{Registers, Refused}
+use Rattle.timekeeping.specs.CoreCalls.{accepted_with, byte_read, same_mode, one_cell}
 use Rattle.timekeeping.specs.Law.{KeepsTime}
 use Rattle.timekeeping.specs.Logs.{Sight, Wrote, Nothing, Heard, Log, state_after}
 use Rattle.timekeeping.proofs.CoreSights.{acts_mode}
@@ -20,7 +20,7 @@ use Rattle.timekeeping.proofs.Keeping.{Acts, held_core, pulses_held}
 use Rattle.timekeeping.proofs.Theorem.{TrueToSights, the_law}
 use Rattle.msm62x42_runs.specs.declared.call.PartCall.{PartCall}
 use Rattle.msm62x42_runs.specs.declared.call.PartCall.TheVariants.{Load, Pulses, Read, Write, Deselect, Look}
-use Rattle.msm62x42_runs.specs.Calls.{do_call, hold_after, hold_heard, hold_stands, hold_sight, part_sight, part_machine}
+use Rattle.msm62x42_runs.specs.Calls.{do_call, hold_heard, hold_stands, hold_sight, part_sight, part_machine}
 
 module _ (s : CoreState) where
   -- HOLD as it is written, by whether it stands

@@ -1,5 +1,5 @@
 -- The row of sixteen registers.
-use Rattle.std.proofs.Common.{◌≡◌, ℕ, List, [], ◌∷◌, ◌++◌, length, get_or, refl, ap, ◌∙◌, arith, length-append}
+use Rattle.std.proofs.Common.{◌≡◌, ℕ, List, [], ◌∷◌, ◌++◌, length, get_or, refl, arith, length-append}
 use Rattle.rx5c348a.specs.Part.{PartState, registers}
 
 -- seven cells, one by one, before the rest

@@ -6,7 +6,7 @@ use Rattle.register_map.specs.Chart.{map_state}
 use Rattle.byte_map.specs.Cells.{byte_chart}
 use Rattle.byte_map.specs.declared.map.ByteMap.{ByteMap}
 use Rattle.clock_core.specs.Core.{CoreState, Accepted, idle_core, load_core, give_pulses, copied_front}
-use Rattle.clock_core.specs.declared.core.ClockCore.{ClockCore}
+use Rattle.clock_core.specs.declared.clock.ClockCore.{ClockCore}
 use Rattle.rx5c348a.specs.declared.part.Rx5c348a.{Rx5c348a}
 
 -- A part: its core over the byte map, and XSTP.

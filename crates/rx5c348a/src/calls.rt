@@ -5,7 +5,7 @@ ghost use Rattle.rx5c348a.specs.Part.{seen, power_on, load_part, pulse_part, loo
 use crate::part::Rx5c348a;
 use byte_map::map::ByteMap;
 use clock_core::cells::copy_front;
-use clock_core::core::ClockCore;
+use clock_core::clock::ClockCore;
 use refusals::Refusal;
 use register_map::hour_mode::HourMode;
 use register_map::map::RegisterMap;

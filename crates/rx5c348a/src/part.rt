@@ -1,6 +1,6 @@
 // The part's record.
 use byte_map::map::ByteMap;
-use clock_core::core::ClockCore;
+use clock_core::clock::ClockCore;
 
 #[derive(Drop)]
 pub struct Rx5c348a {

@@ -1,7 +1,7 @@
 -- The example list, worked: its premises by a test on the levels alone.
 use Rattle.std.proofs.Common.{◌≡◌, ℕ, zero, suc, ◌+◌, ◌%◌, ◌<◌, ◌≤◌, Bool, true, false, cond, not, ◌&&◌, eqb, ltb, leb, List, [], ◌∷◌, length, Some, None, Ok, Err, Option, Result, sym, refl, ap, ◌∙◌, subst, ap₂, arith}
 use lib.Bits.{bit_and}
-use Rattle.std.specs.List.{AllByRecursion as All}
+use Rattle.std.specs.List.{AllByRecursion}
 use Rattle.std.proofs.lemmas.Int.{ints}
 use Rattle.std.proofs.lemmas.Bool.Decides.{nat_tests}
 use Rattle.refusals.specs.declared.Refusal.{Refusal}
@@ -17,7 +17,7 @@ use Rattle.serial_transfer.specs.Levels.{out_number}
 use Rattle.rx5c_registers.specs.File.{FileState, registers, has}
 use Rattle.rx5c_registers.specs.Clock as clock
 use Rattle.rx5c348a_whole.specs.declared.pins.PinAnswer.{PinAnswer}
-use Rattle.rx5c348a_whole.specs.Part.{PartState, power_on, load_part, pulse_part}
+use Rattle.rx5c348a_whole.specs.Part.{PartState, load_part, pulse_part}
 use Rattle.rx5c348a_whole.specs.Pins.{answer_in, differ, driven, pins_part}
 use Rattle.timekeeping.specs.Logs.{Sight, Took, Held, Released, Wrote, Gave, Nothing, Log, hear, state_after, log_with, log_of, sights_of, pulses_by, pulses_taken, is_held, held_by, is_write, Undisturbed, ShortStretches}
 use Rattle.timekeeping.specs.Law.{NewlyMade, Timekeeping, calendar}
@@ -247,7 +247,7 @@ one_unwritten Wrote ok = never ok
 one_unwritten (Gave b) ok = refl
 one_unwritten Nothing ok = refl
 
-shapes_unwritten : (sights : List Sight) → none_written (shapes sights) ≡ true → All (λ x. is_write x ≡ false) sights
+shapes_unwritten : (sights : List Sight) → none_written (shapes sights) ≡ true → AllByRecursion (λ x. is_write x ≡ false) sights
 unfolding none_written shapes
 shapes_unwritten [] ok = tt
 shapes_unwritten (x ∷ sights) ok = (one_unwritten x (first_of (not (is_write (shape x))) _ ok), shapes_unwritten sights (second_of_both (not (is_write (shape x))) _ ok))

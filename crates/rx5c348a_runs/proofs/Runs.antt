@@ -1,5 +1,5 @@
 -- A 348A is true to its sights, and so keeps time.
-use Rattle.std.proofs.Common.{◌≡◌, ℕ, ◌<◌, Bool, true, false, cond, ◌&&◌, ltb, List, [], ◌∷◌, length, get_or, Some, None, Ok, Err, Option, sym, refl, ap, ◌∙◌, subst, ap₂, arith, ltb-true}
+use Rattle.std.proofs.Common.{◌≡◌, ℕ, Bool, true, false, cond, ltb, List, [], ◌∷◌, get_or, Some, None, Ok, Err, Option, sym, refl, ap, ◌∙◌, subst, ap₂, arith, ltb-true}
 use lib.Bits.{bit_and}
 use Rattle.refusals.specs.declared.Refusal.{Refusal}
 use Rattle.refusals.specs.declared.Refusal.TheVariants.{TooManyPulses, ShortBuffer}
@@ -7,8 +7,7 @@ use Rattle.register_map.specs.declared.hour_mode.HourMode.{HourMode}
 use Rattle.register_map.specs.Chart.{MapState, map_state}
 use Rattle.byte_map.specs.Cells.{byte_chart}
 use Rattle.byte_map.specs.RowLaws.{byte_chart_lawful}
-use Rattle.clock_core.specs.Core.{CoreState, Accepted as Acceptance, many_pulses, loaded, load_refusal, unless_refused}
-use Rattle.serial_transfer.specs.declared.phase.Phase.{Phase}
+use Rattle.clock_core.specs.Core.{CoreState, Accepted as Acceptance, loaded, load_refusal, unless_refused}
 use Rattle.rx5c_registers.specs.File.{FileState, registers, has}
 use Rattle.rx5c_registers.specs.Clock as clock
 use Rattle.rx5c_registers.proofs.Ringing.{taken_core}
@@ -16,7 +15,7 @@ use Rattle.rx5c_registers.proofs.Rows.{lower_register}
 use Rattle.rx5c348a_whole.specs.Part.{PartState, with_file, after_load, load_part, pulse_part}
 use Rattle.rx5c348a_whole.specs.Pins.{pins_part}
 use Rattle.timekeeping.specs.Law.{NewlyMade, KeepsTime}
-use Rattle.timekeeping.specs.Logs.{Sight, Heard, Log, state_after}
+use Rattle.timekeeping.specs.Logs.{Log, state_after}
 use Rattle.timekeeping.proofs.Heard.{Truly}
 use Rattle.timekeeping.proofs.Keeping.{Acts, pulses_held}
 use Rattle.timekeeping.proofs.Loads.{loads_new}

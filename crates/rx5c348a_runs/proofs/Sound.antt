@@ -1,6 +1,6 @@
 -- The cells of a part are seven bytes, along every call.
-use Rattle.std.proofs.Common.{◌≡◌, ℕ, zero, suc, ◌+◌, ◌%◌, ◌<◌, ◌≤◌, Bool, true, false, cond, eqb, ltb, List, [], ◌∷◌, length, get_or, set, Some, None, Option, sym, refl, ap, ◌∙◌, subst, mod-lt, arith}
-use lib.Bits.{bit_and, and_le_r}
+use Rattle.std.proofs.Common.{◌≡◌, ℕ, zero, suc, ◌+◌, ◌<◌, Bool, true, false, cond, ltb, List, [], ◌∷◌, length, get_or, set, Some, None, Option, sym, refl, ap, ◌∙◌, subst, arith}
+use lib.Bits.{and_le_r}
 use Rattle.register_map.specs.declared.hour_mode.HourMode.{HourMode}
 use Rattle.register_map.specs.Chart.{Shown, Showable, MapState, map_state, shown_by, put_byte, advanced, advanced_from}
 use Rattle.byte_map.specs.Cells.{byte_chart}

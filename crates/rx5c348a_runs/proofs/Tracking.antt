@@ -1,11 +1,10 @@
 -- The notes of an onlooker follow the part, and the part does to its core what he makes of its calls.
 use Rattle.std.proofs.Common.{◌≡◌, ℕ, zero, suc, ◌+◌, ◌-◌, ◌/◌, ◌%◌, ◌^◌, ◌<◌, Bool, true, false, cond, ◌&&◌, eqb, ltb, List, [], ◌∷◌, length, get_or, Some, None, Ok, Err, Option, Result, sym, refl, ap, ◌∙◌, subst, ap₂, div-one, add-one, arith, ltb-false, ltb-true, eqb-true}
-use lib.Bits.{bit_and}
 use borrow.Author.Tests.{eqb-false}
 use Rattle.refusals.specs.declared.Refusal.{Refusal}
 use Rattle.refusals.specs.declared.Refusal.TheVariants.{NoSuchLevels, TwoPinsChange, AlreadyHeld, NotHeld}
 use Rattle.register_map.specs.declared.hour_mode.HourMode.{HourMode}
-use Rattle.register_map.specs.Chart.{MapState, shown_by, put_byte, advanced}
+use Rattle.register_map.specs.Chart.{shown_by, put_byte, advanced}
 use Rattle.byte_map.specs.Cells.{byte_chart}
 use Rattle.clock_core.specs.Core.{CoreState, Accepted as Acceptance, hold_core, release_core, released as core_released, set_trim, set_core_mode, restart_second}
 use Rattle.serial_transfer.specs.declared.phase.SerialOut.{SerialOut}
@@ -16,19 +15,19 @@ use Rattle.serial_transfer.specs.declared.phase.Format.TheVariants.{SingleWrite,
 use Rattle.serial_transfer.specs.declared.phase.Phase.{Phase}
 use Rattle.serial_transfer.specs.declared.phase.Phase.TheVariants.{Idle, Header, Write, Read, Deaf}
 use Rattle.serial_transfer.specs.Levels.{taken, bit_at, out_number, level_out}
-use Rattle.serial_transfer.specs.Rules.{format_coded, data_at, headed, after_write, after_read, fixed}
+use Rattle.serial_transfer.specs.Rules.{format_coded, data_at, headed, after_write, after_read}
 use Rattle.serial_transfer.proofs.Shifts.{taken_more}
-use Rattle.rx5c_registers.specs.File.{FileState, with_core, registers, written, masked, hour_mode_in, cell_put, cell_written, alarm_written, control_written, flags_written}
+use Rattle.rx5c_registers.specs.File.{FileState, with_core, written, masked, hour_mode_in, cell_put, cell_written, alarm_written, control_written, flags_written}
 use Rattle.rx5c_registers.specs.Clock.{at_minute, minute_begun, held, released}
 use Rattle.rx5c_registers.proofs.Rows.{lower_register}
 use Rattle.rx5c348a_whole.specs.declared.pins.PinAnswer.{PinAnswer}
 use Rattle.rx5c348a_whole.specs.Part.{PartState}
 use Rattle.rx5c348a_whole.specs.Pins.{answer_in, differ, driven, due_byte, with_landing}
 use Rattle.timekeeping.specs.CoreCalls.{one_cell, same_mode}
-use Rattle.timekeeping.specs.Logs.{Sight, Wrote, Gave, Nothing}
+use Rattle.timekeeping.specs.Logs.{Wrote, Gave, Nothing}
 use Rattle.timekeeping.proofs.CoreSights.{acts_mode}
 use Rattle.timekeeping.proofs.Keeping.{Acts, held_core}
-use Rattle.rx5c348a_runs.specs.Onlooker.{Next, AHeader, WriteTo, ReadFrom, Unheard, asked, next_after, Notes, spelt, bit_noted, given_by, landed_by}
+use Rattle.rx5c348a_runs.specs.Onlooker.{Next, AHeader, WriteTo, ReadFrom, Unheard, asked, next_after, Notes, spelt, bit_noted, landed_by}
 use Rattle.rx5c348a_runs.specs.Calls.{levels_answered, pins_noted, pins_sight}
 use Rattle.rx5c348a_runs.proofs.Sound.{Sound, sound_advanced, sound_put}
 

@@ -4,7 +4,6 @@ use Rattle.refusals.specs.declared.Refusal.{Refusal}
 use Rattle.refusals.specs.declared.Refusal.TheVariants.{ShortBuffer}
 use Rattle.register_map.specs.declared.hour_mode.HourMode.{HourMode}
 use Rattle.clock_core.specs.Core.{Accepted as Acceptance}
-use Rattle.serial_transfer.specs.declared.phase.SerialOut.{SerialOut}
 use Rattle.serial_transfer.specs.Levels.{out_number}
 use Rattle.rx5c_registers.specs.File.{registers, has}
 use Rattle.rx5c348a_whole.specs.declared.pins.PinAnswer.{PinAnswer}

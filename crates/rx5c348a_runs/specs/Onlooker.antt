@@ -1,12 +1,11 @@
 -- What an onlooker at the wires makes of levels: he notes SI at the falls of SCLK and SO at its rises, and counts in eights.
-use Rattle.std.specs.Prelude.{ℕ, ◌+◌, ◌/◌, ◌%◌, Bool, true, false, cond, not, List, [], ◌∷◌, length, Some, None, Option, ◌==◌, nat_lt}
-use Rattle.std.specs.Int.Bits.{bit_and}
+use Rattle.std.specs.Prelude.{ℕ, ◌+◌, ◌/◌, ◌%◌, Bool, true, false, cond, List, [], ◌∷◌, length, Some, None, Option, ◌==◌, nat_lt}
 use Rattle.register_map.specs.declared.hour_mode.HourMode.{HourMode}
 use Rattle.serial_transfer.specs.declared.phase.Format.{Format}
 use Rattle.serial_transfer.specs.declared.phase.Format.TheVariants.{SingleWrite, BurstWrite, SingleRead, BurstRead}
 use Rattle.serial_transfer.specs.Levels.{taken}
 use Rattle.serial_transfer.specs.Rules.{format_coded}
-use Rattle.rx5c_registers.specs.File.{has, masked, hour_mode_in}
+use Rattle.rx5c_registers.specs.File.{masked, hour_mode_in}
 use Rattle.rx5c348a_whole.specs.Pins.{differ}
 use Rattle.timekeeping.specs.CoreCalls.{same_mode, one_cell}
 use Rattle.timekeeping.specs.Logs.{Sight, Held, Released, Wrote, Gave, Nothing}

@@ -1,5 +1,5 @@
 -- The 348A: its state, and what power-on, load, halt, pulses and look answer and leave.
-use Rattle.std.specs.Prelude.{ℕ, Bool, true, false, cond, List, Ok, Err}
+use Rattle.std.specs.Prelude.{ℕ, Bool, false, cond, List, Ok, Err}
 use Rattle.clock_core.specs.Core.{Accepted}
 use Rattle.serial_transfer.specs.declared.phase.Phase.{Phase}
 use Rattle.serial_transfer.specs.declared.phase.Phase.TheVariants.{Idle}

@@ -2,7 +2,6 @@
 use Rattle.std.specs.Prelude.{ℕ, Bool, true, false, cond, not, ◌&&◌, Some, None, Ok, Err, Option, Result, bit_and, nat_lt, slice_index}
 use Rattle.refusals.specs.declared.Refusal.{Refusal}
 use Rattle.refusals.specs.declared.Refusal.TheVariants.{NoSuchLevels, TwoPinsChange}
-use Rattle.serial_transfer.specs.declared.phase.Phase.{Phase}
 use Rattle.serial_transfer.specs.declared.phase.Phase.TheVariants.{Idle}
 use Rattle.serial_transfer.specs.declared.phase.Landing.{Landing}
 use Rattle.serial_transfer.specs.Rules.{fresh_header, awaits, due_in, out_in, risen, fallen}

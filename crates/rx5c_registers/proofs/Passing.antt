@@ -2,7 +2,7 @@
 use Rattle.std.proofs.Common.{◌≡◌, ℕ, zero, suc, ◌+◌, ◌-◌, ◌<◌, ◌≤◌, Bool, true, false, cond, ltb, sym, refl, ap, ◌∙◌, arith, ltb-false, ltb-true, le-ltb, lt-ltb}
 use Rattle.register_map.specs.Chart.{advanced}
 use Rattle.byte_map.specs.Cells.{byte_chart}
-use Rattle.clock_core.specs.Core.{CoreState, with_map, waiting, begin_second, at_position, pulses_left, cross_boundary}
+use Rattle.clock_core.specs.Core.{CoreState, with_map, waiting, begin_second, at_position, pulses_left}
 use Rattle.rx5c_registers.specs.File.{FileState, with_core}
 use Rattle.rx5c_registers.specs.Clock.{after_advance, crossed, pulse_taken, pulses_taken, run_to_boundary}
 

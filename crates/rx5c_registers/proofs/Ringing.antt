@@ -1,14 +1,14 @@
 -- An alarm rings exactly when its minute comes up on one of its days.
-use Rattle.std.proofs.Common.{◌≡◌, ℕ, zero, suc, ◌+◌, ◌%◌, ◌<◌, Bool, true, false, cond, not, ◌&&◌, ◌||◌, eqb, ltb, get_or, Some, None, Ok, Err, Option, sym, refl, ap, ◌∙◌, subst, ap₂, mod-lt, arith, eqb-true}
+use Rattle.std.proofs.Common.{◌≡◌, ℕ, zero, suc, ◌+◌, ◌%◌, ◌<◌, Bool, true, false, cond, not, ◌&&◌, ◌||◌, eqb, ltb, get_or, Some, None, Ok, Err, Option, sym, refl, ap, ◌∙◌, subst, mod-lt, arith, eqb-true}
 use Rattle.refusals.specs.declared.Refusal.TheVariants.{NotHeld}
-use Rattle.register_map.specs.Chart.{Shown, Showable, MapState, shown_by, second_of, second_after, weekday_after, advanced, advanced_from}
+use Rattle.register_map.specs.Chart.{Shown, Showable, shown_by, second_after, weekday_after, advanced, advanced_from}
 use Rattle.byte_map.specs.Cells.{byte_chart}
 use Rattle.byte_map.specs.RowLaws.{byte_chart_lawful}
 use Rattle.clock_core.specs.Core.{CoreState, at_position, waiting, with_map, begin_second, cross_boundary, one_pulse, many_pulses, released as core_released, release_core, Accepted}
 use Rattle.rx5c_registers.specs.declared.alarm.AlarmRow.{AlarmRow}
 use Rattle.rx5c_registers.specs.Alarms.{comes_up, with_flag, rung}
 use Rattle.rx5c_registers.specs.File.{FileState, with_core, alarm}
-use Rattle.rx5c_registers.specs.Clock.{at_minute, minute_begun, after_advance, crossed, pulse_taken, pulses_taken, released}
+use Rattle.rx5c_registers.specs.Clock.{at_minute, minute_begun, pulse_taken, pulses_taken, released}
 use Rattle.rx5c_registers.specs.Ringing.{MinuteBegins, ItsMinuteBegins, RingsWithin, RowRings, AlarmsRing, RowRingsAtRelease, AlarmsRingAtRelease}
 
 weekday_stays : (w : ℕ) (b : Bool) → w < 7 → cond b (weekday_after w) w < 7

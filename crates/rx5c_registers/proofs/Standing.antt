@@ -1,11 +1,11 @@
 -- A written byte stands in its register.
-use Rattle.std.proofs.Common.{◌≡◌, ℕ, zero, suc, ◌+◌, ◌%◌, ◌<◌, ◌≤◌, Bool, true, false, cond, ◌&&◌, eqb, ltb, List, [], ◌∷◌, ◌++◌, length, get_or, set, sym, refl, ap, ◌∙◌, subst, ap₂, arith, eqb-true}
+use Rattle.std.proofs.Common.{◌≡◌, ℕ, zero, suc, ◌%◌, ◌<◌, Bool, true, false, cond, ◌&&◌, eqb, List, [], ◌∷◌, ◌++◌, length, get_or, set, sym, refl, ap, ◌∙◌, subst, arith, eqb-true}
 use lib.Bits.{bit_and, bit_or, and_zero_r, and_le_r}
 use borrow.Author.Tests.{eqb-false}
 use Rattle.rx5c_registers.specs.declared.alarm.AlarmRow.{AlarmRow}
 use Rattle.rx5c_registers.specs.Alarms.{blank_row}
 use Rattle.rx5c_registers.specs.File.{FileState, with_alarms, bit_if, mode_bit, hour_mode_in, upper_registers, registers, masked, has, rows_enabled, flag_byte, written}
-use Rattle.rx5c_registers.specs.Standing.{standing, StandsIn}
+use Rattle.rx5c_registers.specs.Standing.{StandsIn}
 
 -- a rule of bytes, computed for all of them
 unfoldable every : (ℕ → Bool) → ℕ → Bool

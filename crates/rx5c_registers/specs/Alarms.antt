@@ -1,5 +1,5 @@
 -- Alarm rows: when a row rings, and what is done to one.
-use Rattle.std.specs.Prelude.{ℕ, ◌/◌, ◌%◌, ◌^◌, Bool, true, false, cond, ◌&&◌, ◌||◌, ◌==◌}
+use Rattle.std.specs.Prelude.{ℕ, ◌/◌, ◌%◌, ◌^◌, Bool, false, ◌&&◌, ◌||◌, ◌==◌}
 use Rattle.rx5c_registers.specs.declared.alarm.AlarmRow.{AlarmRow}
 
 -- a weekday's bit in a row's days

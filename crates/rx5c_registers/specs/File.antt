@@ -1,12 +1,12 @@
 -- The register file: what its sixteen registers read, and what a write to each does.
-use Rattle.std.specs.Prelude.{ℕ, Bool, true, false, cond, not, ◌&&◌, List, [], ◌∷◌, ◌++◌, set, replicate, ◌==◌, bit_and, bit_or, nat_lt, slice_index, slice_index_or, slice_set}
+use Rattle.std.specs.Prelude.{ℕ, Bool, true, cond, not, ◌&&◌, List, [], ◌∷◌, ◌++◌, ◌==◌, bit_and, bit_or, nat_lt, slice_index, slice_index_or, slice_set}
 use Rattle.register_map.specs.declared.hour_mode.HourMode.{HourMode}
 use Rattle.register_map.specs.declared.hour_mode.HourMode.TheVariants.{Twelve, TwentyFour}
 use Rattle.register_map.specs.Chart.{map_state, put_byte}
 use Rattle.byte_map.specs.Cells.{byte_chart}
 use Rattle.byte_map.specs.declared.map.ByteMap.{ByteMap}
 use Rattle.clock_core.specs.Core.{CoreState, Accepted, with_map, set_trim, set_core_mode, restart_second, copied_front}
-use Rattle.clock_core.specs.declared.core.ClockCore.{ClockCore}
+use Rattle.clock_core.specs.declared.clock.ClockCore.{ClockCore}
 use Rattle.rx5c_registers.specs.declared.alarm.AlarmRow.{AlarmRow}
 use Rattle.rx5c_registers.specs.declared.file.RegisterFile.{RegisterFile}
 use Rattle.rx5c_registers.specs.Alarms.{blank_row, every_day, enabled_to, flag_written, with_minute, with_hour, with_days}

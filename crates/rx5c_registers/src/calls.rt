@@ -7,7 +7,7 @@ ghost use Rattle.rx5c_registers.specs.Clock.{power_on, load, halted};
 use crate::alarm::{AlarmRow, EVERY_DAY};
 use crate::file::RegisterFile;
 use byte_map::map::ByteMap;
-use clock_core::core::ClockCore;
+use clock_core::clock::ClockCore;
 use refusals::Refusal;
 use register_map::hour_mode::HourMode;
 use register_map::map::RegisterMap;

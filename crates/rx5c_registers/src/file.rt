@@ -3,7 +3,7 @@ ghost use Rattle.std.specs.Prelude.{◌≡◌, length};
 
 use crate::alarm::AlarmRow;
 use byte_map::map::ByteMap;
-use clock_core::core::ClockCore;
+use clock_core::clock::ClockCore;
 
 #[derive(Drop)]
 pub struct RegisterFile {

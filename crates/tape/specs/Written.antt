@@ -1,6 +1,6 @@
 -- The tape that writes a list of records, and what it does, said of the records and not of the bytes.
 use Rattle.std.specs.Prelude.{◌≡◌, ℕ, zero, suc, ◌+◌, ◌/◌, ◌%◌, ◌^◌, ◌<◌, ◌≤◌, cond, List, [], ◌∷◌, ◌++◌, length, Ok, Err, Result, nat_lt}
-use Rattle.std.specs.List.{flat_map, AllByRecursion as All}
+use Rattle.std.specs.List.{flat_map, AllByRecursion}
 use Rattle.refusals.specs.declared.Refusal.{Refusal}
 use Rattle.rx5c348a.specs.Part.{PartState}
 use Rattle.tape.specs.declared.fault.TapeFault.{TapeFault}
@@ -38,7 +38,7 @@ tape_of records = flat_map record_bytes records
 
 -- five groups hold each number
 abbrev pub Writable : List Record → Type 0
-Writable records = All (λ r. number_in r < 2 ^ 35) records
+Writable records = AllByRecursion (λ r. number_in r < 2 ^ 35) records
 
 -- the part accepts a record and the next one is done, or it refuses and that record's place is a fault
 abbrev pub next_record : ℕ → (Bench → Outcome) → Result (Unit {0}) Refusal → Bench → Outcome

@@ -1,5 +1,5 @@
 -- A bare core is true to its sights.
-use Rattle.std.proofs.Common.{◌≡◌, ℕ, ◌<◌, Bool, true, false, cond, eqb, ltb, List, length, get_or, Some, None, Ok, Err, Option, sym, refl, ap, ◌∙◌, subst, arith, ltb-true, eqb-true}
+use Rattle.std.proofs.Common.{◌≡◌, ℕ, Bool, true, false, cond, eqb, ltb, length, get_or, Some, None, Ok, Err, sym, refl, ap, ◌∙◌, subst, arith, ltb-true, eqb-true}
 use Rattle.refusals.specs.declared.Refusal.TheVariants.{TooManyPulses, ShortBuffer, NoSuchCell, AlreadyHeld, NotHeld}
 use Rattle.register_map.specs.declared.hour_mode.HourMode.{HourMode}
 use Rattle.register_map.specs.declared.hour_mode.HourMode.TheVariants.{Twelve, TwentyFour}
@@ -10,7 +10,7 @@ use Rattle.timekeeping.specs.declared.call.CoreCall.{CoreCall}
 use Rattle.timekeeping.specs.declared.call.CoreCall.TheVariants.{Pulses, Hold, Release, Read, Write, Look, SetTrim, SetHourMode, RestartSecond}
 use Rattle.timekeeping.specs.declared.call.CoreAnswer.{CoreAnswer}
 use Rattle.timekeeping.specs.declared.call.CoreAnswer.TheVariants.{Refused, Registers}
-use Rattle.timekeeping.specs.CoreCalls.{accepted_with, byte_read, do_call, same_mode, one_cell, cells_of, core_sight, core_machine}
+use Rattle.timekeeping.specs.CoreCalls.{accepted_with, byte_read, do_call, same_mode, core_sight, core_machine}
 use Rattle.timekeeping.specs.Logs.{Nothing, Wrote, state_after}
 use Rattle.timekeeping.proofs.Keeping.{Acts, held_core}
 use Rattle.timekeeping.proofs.Theorem.{TrueToSights}

@@ -1,9 +1,9 @@
 -- The example list, worked.
-use Rattle.std.proofs.Common.{◌≡◌, ℕ, suc, ◌+◌, ◌%◌, ◌<◌, Bool, true, false, cond, eqb, List, [], ◌∷◌, Some, Ok, Err, Option, sym, refl, ap, ◌∙◌, subst, arith}
+use Rattle.std.proofs.Common.{◌≡◌, ℕ, ◌%◌, Bool, true, false, cond, eqb, List, [], ◌∷◌, Some, Ok, Err, Option, sym, refl, ap, ◌∙◌, subst, arith}
 use Rattle.std.specs.Option.{option_map}
 use Rattle.refusals.specs.declared.Refusal.TheVariants.{NotHeld}
-use Rattle.register_map.specs.Chart.{Chart, Lawful, Shown, MapState, shown_by, second_of, second_after, advanced, advanced_from, showing}
-use Rattle.clock_core.specs.Core.{CoreState, Accepted as Acceptance, new_core, counted_value, many_pulses, cross_boundary, released, registers}
+use Rattle.register_map.specs.Chart.{Chart, Lawful, Shown, MapState, shown_by, second_of, second_after, advanced_from}
+use Rattle.clock_core.specs.Core.{CoreState, Accepted as Acceptance, counted_value, many_pulses, cross_boundary, released, registers}
 use Rattle.clock_core.specs.Seconds.{second_pulses, trimmed_length}
 use Rattle.clock_core.proofs.Runs.{pulses_to_boundary}
 use Rattle.timekeeping.specs.declared.call.CoreCall.{CoreCall}

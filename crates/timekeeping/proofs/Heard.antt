@@ -1,6 +1,6 @@
 -- Logs: what was truly heard, stretches and their pulses, and logs that are part of longer ones.
-use Rattle.std.proofs.Common.{◌≡◌, ℕ, ◌+◌, ◌≤◌, Bool, true, false, List, [], ◌∷◌, ◌++◌, sym, refl, ap, ◌∙◌, subst, append_assoc, arith}
-use Rattle.std.specs.List.{AllByRecursion as All}
+use Rattle.std.proofs.Common.{◌≡◌, ℕ, ◌+◌, true, false, List, [], ◌∷◌, ◌++◌, sym, refl, ap, ◌∙◌, subst, append_assoc, arith}
+use Rattle.std.specs.List.{AllByRecursion}
 use Rattle.register_map.specs.declared.hour_mode.HourMode.{HourMode}
 use Rattle.timekeeping.specs.Logs.{Sight, Took, Held, Released, Wrote, Gave, Nothing, Machine, Heard, Log, hear, state_after, log_with, sights_of, sights_after, pulses_by, pulses_taken, held_by, is_held, is_release, Stretch, ShortStretches}
 use Rattle.timekeeping.proofs.Keeping.{since_by}
@@ -20,7 +20,7 @@ module _ (m : Machine) (mode : HourMode) (start : m.State) where
   truly_earlier [] log t = t
   truly_earlier (h ∷ later) log t = truly_earlier later log t.1
 
-  pub all_earlier : (P : Sight → Type 0) (later log : Log m) → All P (sights_of m mode (later ++ log)) → All P (sights_of m mode log)
+  pub all_earlier : (P : Sight → Type 0) (later log : Log m) → AllByRecursion P (sights_of m mode (later ++ log)) → AllByRecursion P (sights_of m mode log)
   unfolding sights_of
   all_earlier P [] log a = a
   all_earlier P (h ∷ later) log a = all_earlier P later log a.1

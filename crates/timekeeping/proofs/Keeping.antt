@@ -1,12 +1,12 @@
 -- What every core keeps from one pulse to the next, and from one call to the next.
-use Rattle.std.proofs.Common.{◌≡◌, ℕ, zero, suc, ◌+◌, ◌-◌, ◌*◌, ◌%◌, ◌<◌, ◌≤◌, Bool, true, false, cond, eqb, ltb, length, get_or, pos, ◌+ℤ◌, nat_abs, Some, None, Option, sym, refl, ap, ◌∙◌, subst, ap₂, subst₂, arith, ltb-false, ltb-true}
+use Rattle.std.proofs.Common.{◌≡◌, ℕ, zero, suc, ◌+◌, ◌%◌, ◌<◌, ◌≤◌, Bool, true, false, cond, eqb, ltb, length, get_or, Some, Option, sym, refl, ap, ◌∙◌, subst, ap₂, subst₂, arith, ltb-false, ltb-true}
 use Rattle.std.specs.Option.{option_map}
 use Rattle.std.proofs.lemmas.Int.{ints}
 use Rattle.std.proofs.lemmas.Bool.Decides.{nat_tests}
 use Rattle.register_map.specs.declared.hour_mode.HourMode.{HourMode}
-use Rattle.register_map.specs.Chart.{Chart, Shown, Showable, Lawful, MapState, map_state, shown_by, second_of, second_after, advanced, advanced_from}
+use Rattle.register_map.specs.Chart.{Chart, Shown, Showable, Lawful, MapState, map_state, shown_by, second_of, advanced, advanced_from}
 use Rattle.clock_core.specs.Core.{CoreState, with_map, waiting, at_position, begin_second, cross_boundary, one_pulse, many_pulses, counted_value, released as released_core}
-use Rattle.clock_core.specs.Seconds.{second_pulses, trimmed_length, trim_pulses}
+use Rattle.clock_core.specs.Seconds.{second_pulses, trimmed_length}
 use Rattle.clock_core.proofs.Runs.{pulse_within, pulse_crosses}
 use Rattle.timekeeping.specs.Logs.{Sight, Took, Held, Released, Wrote, Gave, Nothing, pulses_by, held_by, is_write}
 use Rattle.timekeeping.specs.Seconds.{seconds_past, length_of_second, first_seconds}

@@ -1,6 +1,5 @@
 -- An accepted load leaves a newly made core.
-use Rattle.std.proofs.Common.{◌≡◌, ℕ, ◌<◌, ◌≤◌, Bool, true, false, cond, ◌||◌, ltb, leb, Some, None, Ok, Err, Option, sym, refl, ap, ◌∙◌, subst, arith, ltb-false, leb-false}
-use Rattle.refusals.specs.declared.Refusal.{Refusal}
+use Rattle.std.proofs.Common.{◌≡◌, ℕ, Bool, true, false, cond, ◌||◌, ltb, leb, Some, None, Ok, refl, arith, ltb-false, leb-false}
 use Rattle.refusals.specs.declared.Refusal.TheVariants.{NoSuchMoment, NoSuchSetting}
 use Rattle.register_map.specs.Chart.{Chart, Lawful, map_state}
 use Rattle.clock_core.specs.Core.{CoreState, Accepted, mode_of, loaded, unless_refused, load_core}

@@ -1,12 +1,9 @@
 -- Moments and their seconds values, some seconds on.
-use Rattle.std.proofs.Common.{◌≡◌, ℕ, zero, suc, ◌+◌, ◌%◌, ◌<◌, ◌≤◌, Bool, true, false, cond, eqb, Some, None, Option, sym, refl, ap, ◌∙◌, mod-lt, arith}
-use Rattle.std.specs.Option.{option_map}
-use Rattle.register_map.specs.declared.hour_mode.HourMode.{HourMode}
+use Rattle.std.proofs.Common.{◌≡◌, ℕ, zero, suc, ◌+◌, ◌%◌, ◌<◌, Bool, true, false, cond, eqb, Some, ap, mod-lt, arith}
 use Rattle.register_map.specs.Chart.{Chart, Shown, Showable, Lawful, second_of, second_after, weekday_after}
-use Rattle.clock_core.specs.Core.{counted_value}
 use Rattle.clock_core.specs.Seconds.{second_pulses, trimmed_length}
 use Rattle.clock_core.proofs.Values.{value_after}
-use Rattle.timekeeping.specs.Seconds.{seconds_past, length_of_second, first_seconds}
+use Rattle.timekeeping.specs.Seconds.{seconds_past, length_of_second}
 
 module _ (c : Chart) (law : Lawful c) where
   weekday_stays : (w : ℕ) (b : Bool) → w < 7 → cond b (weekday_after w) w < 7

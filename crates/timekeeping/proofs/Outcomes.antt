@@ -1,6 +1,6 @@
 -- A list of calls, worked one after the other.
 use Rattle.std.proofs.Common.{◌≡◌, List, [], ◌∷◌, ◌++◌, sym, refl, ap, ◌∙◌}
-use Rattle.timekeeping.specs.Logs.{Machine, Heard, Log, hear, state_after, log_with, log_of, answers_in, outcome}
+use Rattle.timekeeping.specs.Logs.{Machine, Log, hear, state_after, log_with, answers_in, outcome}
 
 module _ (m : Machine) (start : m.State) where
   log_push : (calls : List m.Call) (log : Log m) (call : m.Call) → log_with m start log (calls ++ (call ∷ [])) ≡ hear m start (log_with m start log calls) call ∷ log_with m start log calls

@@ -1,8 +1,8 @@
 -- A test that tells logs without a long held stretch.
 use Rattle.std.proofs.Common.{◌≡◌, ℕ, ◌+◌, ◌≤◌, Bool, true, false, ◌&&◌, leb, List, [], ◌∷◌, ◌++◌, sym, refl, ap, ◌∙◌, arith, leb-true}
-use Rattle.std.specs.List.{AllByRecursion as All}
+use Rattle.std.specs.List.{AllByRecursion}
 use Rattle.register_map.specs.declared.hour_mode.HourMode.{HourMode}
-use Rattle.timekeeping.specs.Logs.{Sight, Took, Held, Released, Wrote, Gave, Nothing, Machine, Log, sights_of, sights_after, pulses_by, pulses_taken, is_release, Stretch, ShortStretches}
+use Rattle.timekeeping.specs.Logs.{Sight, Took, Held, Released, Wrote, Gave, Nothing, Machine, Log, sights_of, sights_after, pulses_by, pulses_taken, is_release, ShortStretches}
 
 -- the pulses since the last release: at least those of the open stretch
 abbrev pub unreleased_by : Sight → ℕ → ℕ
@@ -39,7 +39,7 @@ and_right true b e = e
 and_right false b e = cc
 
 module _ (m : Machine) (mode : HourMode) where
-  stretch_counts : (stretch rest : Log m) → All (λ x. is_release x ≡ false) (sights_after m mode rest stretch) → pulses_taken (sights_after m mode rest stretch) ≤ unreleased_pulses (sights_of m mode (stretch ++ rest))
+  stretch_counts : (stretch rest : Log m) → AllByRecursion (λ x. is_release x ≡ false) (sights_after m mode rest stretch) → pulses_taken (sights_after m mode rest stretch) ≤ unreleased_pulses (sights_of m mode (stretch ++ rest))
   unfolding unreleased_pulses pulses_taken sights_of sights_after
   stretch_counts [] rest on = omega arith
   stretch_counts (h ∷ stretch) rest on = counts_one (m.sight mode (stretch ++ rest) h) _ _ on.0 (stretch_counts stretch rest on.1)

@@ -1,5 +1,5 @@
 -- Held stretches: the map stands.
-use Rattle.std.proofs.Common.{◌≡◌, ℕ, zero, suc, ◌+◌, Bool, true, false, cond, ltb, sym, refl, ap, ◌∙◌, subst, arith}
+use Rattle.std.proofs.Common.{◌≡◌, ℕ, zero, suc, ◌+◌, Bool, true, false, cond, ltb, refl, ap, ◌∙◌, subst, arith}
 use Rattle.register_map.specs.declared.hour_mode.HourMode.{HourMode}
 use Rattle.register_map.specs.Chart.{Chart, advanced}
 use Rattle.clock_core.specs.Core.{CoreState, with_map, waiting, at_position, begin_second, one_pulse, many_pulses}

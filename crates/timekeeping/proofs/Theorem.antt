@@ -1,16 +1,16 @@
 -- The law of timekeeping: what a core keeps along a log, and the three statements from it.
-use Rattle.std.proofs.Common.{◌≡◌, ℕ, suc, ◌+◌, ◌<◌, ◌≤◌, Bool, true, false, cond, List, [], ◌∷◌, ◌++◌, length, get_or, Some, None, Option, sym, refl, ap, ◌∙◌, subst, arith}
+use Rattle.std.proofs.Common.{◌≡◌, ℕ, suc, ◌+◌, ◌<◌, ◌≤◌, Bool, true, false, cond, List, [], ◌∷◌, ◌++◌, length, get_or, Some, Option, sym, refl, ap, ◌∙◌, subst, arith}
 use Rattle.std.specs.Option.{option_map}
-use Rattle.std.specs.List.{AllByRecursion as All}
+use Rattle.std.specs.List.{AllByRecursion}
 use Rattle.register_map.specs.declared.hour_mode.HourMode.{HourMode}
 use Rattle.register_map.specs.Chart.{Chart, Lawful, Shown, Showable, MapState, map_state, shown_by, second_of}
 use Rattle.clock_core.specs.Core.{CoreState, new_core, counted_value}
 use Rattle.clock_core.specs.Seconds.{second_pulses}
 use Rattle.timekeeping.specs.Law.{NewlyMade, Timekeeping, calendar, GivenFrom, KeepsTime}
-use Rattle.timekeeping.specs.Logs.{Sight, Took, Held, Released, Wrote, Gave, Nothing, Machine, Heard, Log, state_after, log_with, log_of, sights_of, sights_after, pulses_by, pulses_taken, held_by, is_held, is_release, is_write, Stretch, Undisturbed, ShortStretches}
-use Rattle.timekeeping.specs.Seconds.{seconds_past, first_seconds, length_of_second, WholeSeconds}
+use Rattle.timekeeping.specs.Logs.{Sight, Took, Held, Released, Wrote, Gave, Nothing, Machine, Heard, Log, state_after, sights_of, sights_after, pulses_taken, held_by, is_held, is_release, is_write, Undisturbed, ShortStretches}
+use Rattle.timekeeping.specs.Seconds.{seconds_past, first_seconds, length_of_second}
 use Rattle.timekeeping.proofs.Drift.{drift_bounds}
-use Rattle.timekeeping.proofs.Heard.{Truly, truly_with, truly_earlier, all_earlier, short_earlier, since_hold, Open, open_stretch}
+use Rattle.timekeeping.proofs.Heard.{Truly, truly_with, truly_earlier, all_earlier, short_earlier, since_hold, open_stretch}
 use Rattle.timekeeping.proofs.Keeping.{Keeps, Acts, since_by, keeps_on, shown_coded, length_low}
 use Rattle.timekeeping.proofs.Moments.{length_past}
 use Rattle.timekeeping.proofs.Stretches.{Stays, stays, held_first}
@@ -85,7 +85,7 @@ module _ (m : Machine) (c : Chart) (law : Lawful c) (start : m.State) (new : New
   mode_stands log k = ap (λ (w : MapState). w.mode) k.0.coded
 
   -- along a held stretch the core stays held over the map that the stretch found
-  held_map : (stretch : Log m) (hold : Heard m.Call m.Answer) (before : Log m) → Truly m new.map.mode start (stretch ++ (hold ∷ before)) → Undisturbed m new.map.mode (stretch ++ (hold ∷ before)) → ShortStretches m new.map.mode (stretch ++ (hold ∷ before)) → m.sight new.map.mode before hold ≡ Held → All (λ x. is_release x ≡ false) (sights_after m new.map.mode (hold ∷ before) stretch) → Stays (core_after before) (core_after (stretch ++ (hold ∷ before)))
+  held_map : (stretch : Log m) (hold : Heard m.Call m.Answer) (before : Log m) → Truly m new.map.mode start (stretch ++ (hold ∷ before)) → Undisturbed m new.map.mode (stretch ++ (hold ∷ before)) → ShortStretches m new.map.mode (stretch ++ (hold ∷ before)) → m.sight new.map.mode before hold ≡ Held → AllByRecursion (λ x. is_release x ≡ false) (sights_after m new.map.mode (hold ∷ before) stretch) → Stays (core_after before) (core_after (stretch ++ (hold ∷ before)))
   unfolding state_after sights_of sights_after
   held_map [] hold before heard quiet short by on =
       held_first c new.map.mode (m.sight new.map.mode before hold) (core_after before) (core_after (hold ∷ before)) (true_to hold before heard) by
@@ -108,7 +108,7 @@ module _ (m : Machine) (c : Chart) (law : Lawful c) (start : m.State) (new : New
   given Nothing s t row acts whole e = tt
 
   -- what is given out along a held stretch is of the code of what was shown when it began
-  stretch_reads : (stretch : Log m) (hold : Heard m.Call m.Answer) (before : Log m) (p : Shown) → Truly m new.map.mode start (stretch ++ (hold ∷ before)) → Undisturbed m new.map.mode (stretch ++ (hold ∷ before)) → ShortStretches m new.map.mode (stretch ++ (hold ∷ before)) → m.sight new.map.mode before hold ≡ Held → All (λ x. is_release x ≡ false) (sights_after m new.map.mode (hold ∷ before) stretch) → calendar m c start before ≡ Some p → All (GivenFrom (c.code new.map.mode p)) (sights_after m new.map.mode (hold ∷ before) stretch)
+  stretch_reads : (stretch : Log m) (hold : Heard m.Call m.Answer) (before : Log m) (p : Shown) → Truly m new.map.mode start (stretch ++ (hold ∷ before)) → Undisturbed m new.map.mode (stretch ++ (hold ∷ before)) → ShortStretches m new.map.mode (stretch ++ (hold ∷ before)) → m.sight new.map.mode before hold ≡ Held → AllByRecursion (λ x. is_release x ≡ false) (sights_after m new.map.mode (hold ∷ before) stretch) → calendar m c start before ≡ Some p → AllByRecursion (GivenFrom (c.code new.map.mode p)) (sights_after m new.map.mode (hold ∷ before) stretch)
   unfolding sights_of sights_after
   stretch_reads [] hold before p heard quiet short by on shown = tt
   stretch_reads (h ∷ stretch) hold before p heard quiet short by on shown =

@@ -1,5 +1,5 @@
 -- An example: a list that meets the law's premises, with a boundary crossed while held.
-use Rattle.std.specs.Prelude.{◌≡◌, ℕ, ◌%◌, List, [], ◌∷◌, Some}
+use Rattle.std.specs.Prelude.{◌≡◌, ◌%◌, List, [], ◌∷◌, Some}
 use Rattle.register_map.specs.Chart.{Chart, Lawful, Shown, MapState, shown_by, second_of, second_after}
 use Rattle.clock_core.specs.Core.{CoreState, new_core, registers}
 use Rattle.timekeeping.specs.declared.call.CoreCall.{CoreCall}

@@ -1,8 +1,7 @@
 -- The law of timekeeping over lists of calls: what the calendar shows, how far pulses and seconds may drift,
 -- and what cells read in one held stretch have in common.
 use Rattle.std.specs.Prelude.{◌≡◌, ℕ, ◌<◌, false, List, [], ◌∷◌, ◌++◌, pos, neg_ℤ, ◌≤ℤ◌, Some, Option, slice_index}
-use Rattle.std.specs.List.{AllByRecursion as All}
-use Rattle.register_map.specs.declared.hour_mode.HourMode.{HourMode}
+use Rattle.std.specs.List.{AllByRecursion}
 use Rattle.register_map.specs.Chart.{Chart, Shown, MapState, shown_by, second_of}
 use Rattle.clock_core.specs.Core.{CoreState, new_core}
 use Rattle.timekeeping.specs.Logs.{Sight, Took, Held, Released, Wrote, Gave, Nothing, Machine, Log, state_after, log_of, sights_after, sights_of, pulses_taken, is_held, Stretch, Undisturbed, ShortStretches}
@@ -44,7 +43,7 @@ pub record Timekeeping (m : Machine) (c : Chart) (start : m.State) (new : NewlyM
   pub drift_not_above : drift new.trim (pulses_taken (sights_of m new.map.mode log)) n ≤ℤ pos 657820
   -- calendar cells read in one held stretch all equal those in the code of what was shown when it began
   pub reads_in_a_stretch_agree :
-      (s : Stretch m new.map.mode log) (p : Shown) → calendar m c start s.before ≡ Some p → All (GivenFrom (c.code new.map.mode p)) (sights_after m new.map.mode (s.hold ∷ s.before) s.stretch)
+      (s : Stretch m new.map.mode log) (p : Shown) → calendar m c start s.before ≡ Some p → AllByRecursion (GivenFrom (c.code new.map.mode p)) (sights_after m new.map.mode (s.hold ∷ s.before) s.stretch)
 
 -- The law: from a newly made core, under the two premises, all of it stands at the start and after each call of the list.
 abbrev pub KeepsTime : (m : Machine) → Chart → m.State → List m.Call → Type 0

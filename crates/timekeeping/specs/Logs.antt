@@ -1,7 +1,7 @@
 -- Lists of calls on one thing with a core in it, as an onlooker hears them: what was called, what was answered,
 -- and what he makes of it.
-use Rattle.std.specs.Prelude.{◌≡◌, ℕ, ◌+◌, ◌≤◌, Bool, true, false, cond, List, [], ◌∷◌, ◌++◌, Option}
-use Rattle.std.specs.List.{AllByRecursion as All}
+use Rattle.std.specs.Prelude.{◌≡◌, ℕ, ◌+◌, ◌≤◌, Bool, true, false, List, [], ◌∷◌, ◌++◌, Option}
+use Rattle.std.specs.List.{AllByRecursion}
 use Rattle.register_map.specs.declared.hour_mode.HourMode.{HourMode}
 use Rattle.clock_core.specs.Core.{CoreState}
 
@@ -127,11 +127,11 @@ pub record Stretch (m : Machine) (mode : HourMode) (log : Log m) : Type 0 where
   pub before : Log m
   pub cut : log ≡ later ++ (stretch ++ (hold ∷ before))
   pub holds : m.sight mode before hold ≡ Held
-  pub unreleased : All (λ x. is_release x ≡ false) (sights_after m mode (hold ∷ before) stretch)
+  pub unreleased : AllByRecursion (λ x. is_release x ≡ false) (sights_after m mode (hold ∷ before) stretch)
 
 -- No accepted call writes a calendar cell or the trim or changes the hour mode.
 abbrev pub Undisturbed : (m : Machine) → HourMode → Log m → Type 0
-Undisturbed m mode log = All (λ x. is_write x ≡ false) (sights_of m mode log)
+Undisturbed m mode log = AllByRecursion (λ x. is_write x ≡ false) (sights_of m mode log)
 
 -- No held stretch takes more than 32,644 pulses.
 abbrev pub ShortStretches : (m : Machine) → HourMode → Log m → Type 0

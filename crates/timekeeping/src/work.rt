@@ -6,7 +6,7 @@ ghost use Rattle.timekeeping.specs.Logs.{outcome};
 ghost use Rattle.timekeeping.specs.Law.{KeepsTime};
 
 use crate::call::{CoreAnswer, CoreCall};
-use clock_core::core::ClockCore;
+use clock_core::clock::ClockCore;
 use refusals::Refusal;
 use register_map::map::RegisterMap;
 use std::alloc::{AllocError, Global};

@@ -1,6 +1,6 @@
-use Rattle.std.proofs.Common.{◌≡◌, vec_items, sym, refl, ap, ◌∙◌, subst, arith, take_all, MatchResult}
+use Rattle.std.proofs.Common.{sym, refl, ap, ◌∙◌, arith, take_all}
 use Rattle.std.proofs.lemmas.List.{take_more}
-use Rattle.std.proofs.lemmas.Result.{err_from_is_err_and, MatchResult-from_err}
+use Rattle.std.proofs.lemmas.Result.{MatchResult-from_err}
 use Rattle.clock_core.specs.View.{meant}
 use Rattle.timekeeping.specs.declared.call.CoreCall.TheVariants.{Pulses}
 use Rattle.timekeeping.specs.Logs.{outcome}

@@ -1,4 +1,4 @@
-use Rattle.std.proofs.Common.{[], refl, arith}
+use Rattle.std.proofs.Common.{refl, arith}
 use Rattle.rx5c348a_whole.specs.Part.{seen}
 use Rattle.host_wires.specs.Record.{wired}
 use Rattle.host_wires.specs.Shifting.{bytes_out}

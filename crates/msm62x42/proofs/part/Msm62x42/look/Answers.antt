@@ -1,7 +1,7 @@
 use Rattle.std.proofs.Common.{◌≡◌, ℕ, List, length, ap, ◌∙◌, arith, length-append, length-set}
 use Rattle.clock_core.specs.Core.{copied_front}
 use Rattle.clock_core.proofs.Copies.{copy_step, copy_whole}
-use Rattle.msm62x42.specs.Part.{registers, seen, control_registers}
+use Rattle.msm62x42.specs.Part.{registers, seen}
 use Rattle.msm62x42.proofs.part.Msm62x42.look.Goals as goal
 
 pub loop-i-preserved : goal.loop-i-preserved

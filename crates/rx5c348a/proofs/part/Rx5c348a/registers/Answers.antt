@@ -1,4 +1,4 @@
-use Rattle.std.proofs.Common.{ℕ, List, [], ◌∷◌, ◌++◌, sym, ◌∙◌, ap₂}
+use Rattle.std.proofs.Common.{ℕ, [], ◌∷◌, ◌++◌, ◌∙◌, ap₂}
 use Rattle.rx5c348a.proofs.Rows.{seven_cells}
 use Rattle.rx5c348a.proofs.part.Rx5c348a.registers.Goals as goal
 

@@ -1,4 +1,4 @@
-use Rattle.std.proofs.Common.{◌≡◌, ℕ, List, [], ◌∷◌, ◌++◌, sym, ◌∙◌, ap₂}
+use Rattle.std.proofs.Common.{ℕ, List, [], ◌∷◌, ◌++◌, ◌∙◌, ap₂}
 use Rattle.rx5c_registers.specs.File.{FileState, file_seen, alarm}
 use Rattle.rx5c_registers.proofs.Rows.{seven_cells}
 use Rattle.rx5c_registers.proofs.file.RegisterFile.registers.Goals as goal

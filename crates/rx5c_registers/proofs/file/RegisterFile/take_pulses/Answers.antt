@@ -1,4 +1,4 @@
-use Rattle.std.proofs.Common.{sym, ◌∙◌, subst, arith}
+use Rattle.std.proofs.Common.{sym, ◌∙◌, subst}
 use Rattle.rx5c_registers.specs.File.{file_seen}
 use Rattle.rx5c_registers.specs.Ringing.{AlarmsRing}
 use Rattle.rx5c_registers.proofs.Passing.{taken_run, taken_all}

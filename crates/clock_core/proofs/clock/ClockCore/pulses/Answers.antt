@@ -1,6 +1,6 @@
 use Rattle.std.proofs.Common.{◌∙◌, arith}
 use Rattle.clock_core.proofs.Runs.{pulses_run, pulses_given}
-use Rattle.clock_core.proofs.core.ClockCore.pulses.Goals as goal
+use Rattle.clock_core.proofs.clock.ClockCore.pulses.Goals as goal
 
 pub loop-left-preserved : goal.loop-left-preserved
 loop-left-preserved g c =

@@ -2,7 +2,7 @@ use Rattle.std.proofs.Common.{ap, ◌∙◌}
 use Rattle.std.specs.Option.{option_map}
 use Rattle.register_map.specs.Chart.{second_of}
 use Rattle.clock_core.proofs.Values.{counted_waiting}
-use Rattle.clock_core.proofs.core.ClockCore.counted_seconds.Goals as goal
+use Rattle.clock_core.proofs.clock.ClockCore.counted_seconds.Goals as goal
 
 pub returns-then-self : goal.returns-then-self
 returns-then-self g c =

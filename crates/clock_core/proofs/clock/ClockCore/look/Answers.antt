@@ -1,8 +1,8 @@
-use Rattle.std.proofs.Common.{◌≡◌, ℕ, List, length, ap, ◌∙◌, arith, length-set}
+use Rattle.std.proofs.Common.{ℕ, List, ap, ◌∙◌, arith, length-set}
 use Rattle.clock_core.specs.Core.{registers, copied_front}
 use Rattle.clock_core.specs.View.{meant}
 use Rattle.clock_core.proofs.Copies.{copy_step, copy_whole, filled_length}
-use Rattle.clock_core.proofs.core.ClockCore.look.Goals as goal
+use Rattle.clock_core.proofs.clock.ClockCore.look.Goals as goal
 
 pub loop-i-preserved : goal.loop-i-preserved
 loop-i-preserved g c =

@@ -1,6 +1,6 @@
 use Rattle.std.proofs.Common.{sym, ◌∙◌, arith}
 use Rattle.clock_core.proofs.Copies.{filled_front, filled_back}
-use Rattle.clock_core.proofs.core.ClockCore.register.Goals as goal
+use Rattle.clock_core.proofs.clock.ClockCore.register.Goals as goal
 
 pub returns-then-number-cell_count : goal.returns-then-number-cell_count
 returns-then-number-cell_count g c =

@@ -1,7 +1,7 @@
 use Rattle.std.proofs.Common.{◌≡◌, ◌≤◌}
 use Rattle.clock_core.specs.Core.{many_pulses}
 use Rattle.clock_core.specs.View.{meant}
-use Rattle.clock_core.proofs.core.ClockCore.pulses.Given as goal
+use Rattle.clock_core.proofs.clock.ClockCore.pulses.Given as goal
 
 abbrev pub invariant-loop-left : goal.invariant-loop-left
 invariant-loop-left g l =

@@ -1,7 +1,7 @@
-use Rattle.std.proofs.Common.{◌≡◌, ◌-◌, ◌++◌, length, take, drop}
+use Rattle.std.proofs.Common.{◌≡◌, ◌++◌, length, take, drop}
 use Rattle.clock_core.specs.Core.{registers}
 use Rattle.clock_core.specs.View.{meant}
-use Rattle.clock_core.proofs.core.ClockCore.look.Given as goal
+use Rattle.clock_core.proofs.clock.ClockCore.look.Given as goal
 
 abbrev pub invariant-loop-i : goal.invariant-loop-i
 invariant-loop-i g l =
