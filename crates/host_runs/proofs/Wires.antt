@@ -6,9 +6,9 @@ use Rattle.rx5c348a_whole.specs.Pins.{pins_part}
 use Rattle.rx5c348a_runs.specs.declared.call.WireCall.{WireCall}
 use Rattle.rx5c348a_runs.specs.declared.call.WireCall.TheVariants.{Pins}
 use Rattle.rx5c348a_runs.specs.Calls.{part_machine, work_one as wire_one}
-use Rattle.timekeeping.specs.Logs.{Log, state_after, hear, log_with, log_of}
+use Rattle.timekeeping.specs.Logs.{Log, state_after, hear, log_with}
 use Rattle.host_wires.specs.declared.record.PinRecord.{PinRecord}
-use Rattle.host_wires.specs.Record.{Wired, wired}
+use Rattle.host_wires.specs.Record.{wired}
 use Rattle.host_sessions.specs.Sessions.{opened, closed, single_read, single_write, burst_read, burst_write}
 use Rattle.host_sessions.specs.Driven.{all_driven, levels_of_burst_read}
 use Rattle.host_sessions.proofs.DrivenLaws.{close_driven, open_driven, read_driven, write_driven, burst_read_driven, burst_write_driven}
