@@ -8,33 +8,26 @@ use std::io;
 use std::io::{Read, Write};
 use tape::fault::TapeFault;
 use tape::play::play;
+use thiserror::Error;
 
 // One byte more than the longest tape, so that a longer one is seen to be too long.
 const ENOUGH: u64 = 4097;
 
 // What ends the program with status 1; a fault of the tape does not.
-#[derive(Debug, Drop)]
+#[derive(Debug, Drop, Error)]
 enum BenchError {
-    Io(io::Error),
+    #[error("standard input or output: {0}")]
+    Io(#[from] io::Error),
+    #[error("no memory for the tape")]
     NoMemory,
-    Line(Refusal),
+    #[error("no line: {0}")]
+    Line(#[from] Refusal),
 }
 
-impl From<io::Error> for BenchError {
-    fn from(value: io::Error) -> BenchError {
-        BenchError::Io(value)
-    }
-}
-
+// By hand: a variant that held the error would be printed otherwise.
 impl From<AllocError> for BenchError {
     fn from(_value: AllocError) -> BenchError {
         BenchError::NoMemory
-    }
-}
-
-impl From<Refusal> for BenchError {
-    fn from(value: Refusal) -> BenchError {
-        BenchError::Line(value)
     }
 }
 
@@ -50,6 +43,7 @@ fn main(rt: HostRuntime) -> Result<(), BenchError> {
     Ok(())
 }
 
+// By the call that makers have too, into a buffer of its caller's.
 fn write_fault(rt: &HostRuntime, fault: TapeFault) -> Result<(), BenchError> {
     let mut line = [0u8; 64];
     let length = fault.line(&mut line)?;

@@ -6,7 +6,7 @@ use Rattle.calendar.specs.Dates.{CivilDate}
 use Rattle.calendar.specs.Times.{ClockTime}
 use Rattle.calendar.specs.Moments.{civil}
 use Rattle.calendar.specs.Digits.{digits_of, packed, unpacked, hour_digits}
-use Rattle.calendar.specs.Spelling.{then, time_spelt, date_spelt}
+use Rattle.calendar.specs.Spelling.{then, time_spelt, date_spelt, weekday_in}
 use Rattle.calendar.specs.Fields.{Fields, fields, chart_of}
 
 -- The used bits of each cell.
@@ -45,10 +45,6 @@ date_in days months years =
 -- The time of day in the hours, minutes and seconds cells, if they spell one.
 abbrev pub time_in : HourMode → ℕ → ℕ → ℕ → Option ClockTime
 time_in mode hours minutes seconds = time_spelt mode 2 (unpacked hours) (unpacked minutes) (unpacked seconds)
-
--- The weekday in its cell, if there is one.
-abbrev pub weekday_in : ℕ → Option ℕ
-weekday_in cell = cond (nat_lt cell 7) (Some cell) None
 
 -- The fields that the cells spell, if they do.
 unfoldable pub fields_in : HourMode → List ℕ → Option Fields

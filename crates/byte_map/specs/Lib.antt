@@ -1,3 +1,4 @@
 pub mod Cells
 pub mod RowLaws
 pub mod MaskLaws
+pub mod Map

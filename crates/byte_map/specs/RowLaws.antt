@@ -1,8 +1,8 @@
 -- The fields and the row that they are written in are each other's inverse.
-use Rattle.std.specs.Prelude.{◌≡◌, ℕ, ◌/◌, ◌%◌, ◌<◌, List, map, length, replicate, Some, None, ◌==◌, nat_lt, slice_index, slice_index_or, refl}
+use Rattle.std.specs.Prelude.{◌≡◌, ℕ, ◌/◌, ◌%◌, ◌<◌, ◌≤◌, List, map, length, replicate, Some, None, ◌==◌, nat_lt, slice_index, slice_index_or, refl}
 use Rattle.std.proofs.Common.{sym, ap, subst, ◌∙◌, arith}
 use Rattle.std.specs.List.{range_with_len}
-use Rattle.std.proofs.lemmas.Bool.{cond-true, lt-ltb, ltb-true, eqb-true}
+use Rattle.std.proofs.lemmas.Bool.{cond-true, eq-eqb, lt-ltb, ltb-true, eqb-true}
 use Rattle.std.proofs.lemmas.List.FromFn.{fill_by_all}
 use Rattle.register_map.specs.Chart.{Lawful}
 use Rattle.register_map.specs.declared.hour_mode.HourMode.{HourMode}
@@ -11,18 +11,24 @@ use Rattle.calendar.specs.Dates.{CivilDate, LawfulDate}
 use Rattle.calendar.specs.Times.{ClockTime, LawfulTime}
 use Rattle.calendar.specs.Moments.{civil}
 use Rattle.calendar.specs.Digits.{digits_of, packed, unpacked, hour_digits}
-use Rattle.calendar.specs.Spelling.{then, date_spelt}
+use Rattle.calendar.specs.Spelling.{then, date_spelt, weekday_in}
 use Rattle.calendar.specs.Fields.{Fields, fields, LawfulFields, Spells}
 use Rattle.calendar.proofs.DigitLaws.{passes, admits, hour_small, unpacked_packed, packed_unpacked}
 use Rattle.calendar.proofs.SpellingLaws.{first_read, time_spelt_as, SpellsTime, spells_time, date_spelt_as, SpellsDate, spells_date}
 use Rattle.calendar.proofs.CellLaws.{byte_at, same_row}
 use Rattle.calendar.proofs.FieldLaws.{lawful_chart}
-use Rattle.byte_map.specs.Cells.{used_bits, number_cell, hour_cell, month_cell, row, date_in, time_in, weekday_in, fields_in, row_read, byte_chart}
+use Rattle.civil_map.specs.Changes.{fields_spelt}
+use Rattle.byte_map.specs.Cells.{used_bits, number_cell, hour_cell, month_cell, row, date_in, time_in, fields_in, row_read, byte_chart}
 use Rattle.byte_map.specs.MaskLaws.{row_masked}
 
 pub row_length : (m : HourMode) (f : Fields) → length (row m f) ≡ 7
 unfolding row
 row_length m f = refl
+
+-- what seven cells spell, by their time of day, date and weekday
+pub row_spelt : (m : HourMode) (cells : List ℕ) → length cells ≡ 7 → row_read m cells ≡ fields_spelt (time_in m (slice_index cells 2) (slice_index cells 1) (slice_index cells 0)) (date_in (slice_index cells 4) (slice_index cells 5) (slice_index cells 6)) (slice_index cells 3)
+unfolding row_read fields_in
+row_spelt m cells h = rw (eq-eqb (length cells) 7 h)
 
 -- the time and date cells, written and read
 time_reads : (m : HourMode) (t : ClockTime) → LawfulTime t → time_in m (hour_cell m t.hour) (number_cell t.minute) (number_cell t.second) ≡ Some t
@@ -124,6 +130,9 @@ spells =
       written_reads = row_reads;
       read_is_written = read_is_row;
     }
+
+pub years_fit : 200 ≤ 200
+years_fit = omega arith
 
 pub byte_chart_lawful : Lawful byte_chart
 byte_chart_lawful = lawful_chart 200 7 used_bits row row_read spells

@@ -1,86 +1,183 @@
-// The cells of the byte map, one by one.
-ghost use Rattle.std.specs.Prelude.{◌≡◌, ◌<◌};
-ghost use Rattle.byte_map.specs.Cells.{number_cell, hour_cell, month_cell, row as written_row, byte_chart};
-ghost use Rattle.calendar.specs.Views.{fields_read};
+// Seven packed decimal cells, one by one.
+ghost use Rattle.std.specs.Prelude.{◌≡◌, ◌<◌, length, slice_index, refl};
+ghost use Rattle.byte_map.specs.Cells.{used_bits, number_cell, hour_cell, month_cell, time_in, date_in, row as written_row, row_read};
+ghost use Rattle.byte_map.specs.RowLaws.{spells, row_spelt, years_fit};
 
+use calendar::date::Date;
 use calendar::digits::Digits;
-use calendar::moments::date_and_time;
+use calendar::hour_face::HourFace;
 use calendar::reading::Reading;
+use calendar::time_of_day::TimeOfDay;
+use civil_map::cells::FieldCells;
 use register_map::hour_mode::HourMode;
 
-pub(crate) const SECONDS: usize = 0;
+const SECONDS: usize = 0;
 
-pub(crate) const MINUTES: usize = 1;
+const MINUTES: usize = 1;
 
-pub(crate) const HOURS: usize = 2;
+const HOURS: usize = 2;
 
-pub(crate) const WEEKDAY: usize = 3;
+const WEEKDAY: usize = 3;
 
-pub(crate) const DAY: usize = 4;
+const DAY: usize = 4;
 
-pub(crate) const MONTH: usize = 5;
+const MONTH: usize = 5;
 
-pub(crate) const YEAR: usize = 6;
+const YEAR: usize = 6;
 
 // The used bits of each cell.
-pub(crate) const USED_BITS: [u8; 7] = [0x7F, 0x7F, 0x3F, 0x07, 0x3F, 0x9F, 0xFF];
+const USED_BITS: [u8; 7] = [0x7F, 0x7F, 0x3F, 0x07, 0x3F, 0x9F, 0xFF];
 
 // Bit 7 of the month cell.
-pub(crate) const CENTURY: u8 = 0x80;
-// What the afternoon adds to the tens of the hour in 12-hour mode: 20h in the cell.
-pub(crate) const AFTERNOON: u8 = 2;
+const CENTURY: u8 = 0x80;
 
-pub(crate) fn number_cell(number: u8) -> u8
+// What the afternoon adds to the tens of the hour in 12-hour mode: 20h in the cell.
+const AFTERNOON: u8 = 2;
+
+fn number_cell(number: u8) -> u8
     requires { number < 100 }
     ensures { result ≡ number_cell number }
 {
     Digits::of(number).pack()
 }
 
-pub(crate) fn hour_cell(mode: HourMode, hour: u8) -> u8
+// That the hour is one is asked here and where its digits are made; a type for it would carry no more.
+fn hour_cell(mode: HourMode, hour: u8) -> u8
     requires { hour < 24 }
     ensures { result ≡ hour_cell mode hour }
 {
-    Digits::of_hour(mode, AFTERNOON, hour).pack()
+    HourFace {
+        mode,
+        mark: AFTERNOON,
+    }
+    .digits(hour)
+    .pack()
 }
 
-pub(crate) fn month_cell(year: u8, month: u8) -> u8
+fn month_cell(year: u8, month: u8) -> u8
     requires { (year < 200) × (month < 13) }
     ensures { result ≡ month_cell year month }
 {
     CENTURY * (year / 100) + number_cell(month)
 }
 
-// The cells of a date, time of day and weekday.
-fn row(mode: HourMode, reading: Reading) -> [u8; 7]
-    requires { reading.date.year < 200 }
-    ensures { result ≡ written_row mode (fields_read reading) }
-{
-    let date = reading.date;
-    let time = reading.time;
-    [
-        number_cell(time.second),
-        number_cell(time.minute),
-        hour_cell(mode, time.hour),
-        reading.weekday,
-        number_cell(date.day),
-        month_cell(date.year, date.month),
-        number_cell(date.year % 100),
-    ]
+#[derive(Clone, Copy, PartialEq, Eq, Debug)]
+pub struct ByteCells {
+    pub bytes: [u8; 7],
+    ghost seven: { length bytes ≡ 7 },
 }
 
-// The cells of a moment and weekday.
-pub(crate) fn code(mode: HourMode, moment: u64, weekday: u8) -> [u8; 7]
-    requires { (moment < byte_chart.cycle) × (weekday < 7) }
-    ensures { result ≡ byte_chart.code mode (record { moment = moment; weekday = weekday }) }
-{
-    let (date, time) = date_and_time(moment);
-    row(
-        mode,
-        Reading {
-            date,
-            time,
-            weekday,
-        },
-    )
+impl FieldCells for ByteCells {
+    const CELLS: usize = 7;
+
+    const YEARS: u8 = 200;
+
+    const CYCLE: u64 = 6_311_520_000;
+
+    ghost CELLS = { 7 };
+
+    ghost YEARS = { 200 };
+
+    ghost CYCLE = { 6311520000 };
+
+    ghost used = { used_bits };
+
+    ghost written = { written_row };
+
+    ghost read = { row_read };
+
+    ghost cells = { λ c. c.bytes };
+
+    ghost time_in = { λ m cells. time_in m (slice_index cells 2) (slice_index cells 1) (slice_index cells 0) };
+
+    ghost date_in = { λ cells. date_in (slice_index cells 4) (slice_index cells 5) (slice_index cells 6) };
+
+    ghost weekday_in = { λ cells. slice_index cells 3 };
+
+    ghost cycled = { refl };
+
+    ghost two_centuries = { years_fit };
+
+    ghost spells = { spells };
+
+    ghost whole = { λ c. c.seven };
+
+    ghost reads = { λ m c. row_spelt m c.bytes c.seven };
+
+    fn zeros() -> ByteCells {
+        ByteCells { bytes: [0; 7] }
+    }
+
+    fn row(mode: HourMode, reading: Reading) -> ByteCells {
+        let date = reading.date;
+        let time = reading.time;
+        ByteCells {
+            bytes: [
+                number_cell(time.second),
+                number_cell(time.minute),
+                hour_cell(mode, time.hour),
+                reading.weekday,
+                number_cell(date.day),
+                month_cell(date.year, date.month),
+                number_cell(date.year % 100),
+            ],
+        }
+    }
+
+    fn get(&self, cell: usize) -> u8 {
+        self.bytes[cell]
+    }
+
+    fn put(&mut self, cell: usize, byte: u8) {
+        self.bytes[cell] = byte & USED_BITS[cell];
+    }
+
+    fn time(&self, mode: HourMode) -> Option<TimeOfDay> {
+        let hours = Digits::unpack(self.bytes[HOURS]);
+        let minutes = Digits::unpack(self.bytes[MINUTES]);
+        let seconds = Digits::unpack(self.bytes[SECONDS]);
+        TimeOfDay::spelt(
+            HourFace {
+                mode,
+                mark: AFTERNOON,
+            },
+            hours,
+            minutes,
+            seconds,
+        )
+    }
+
+    fn date(&self) -> Option<Date> {
+        let century = self.bytes[MONTH] / CENTURY;
+        let years = Digits::unpack(self.bytes[YEAR]);
+        let months = Digits::unpack(self.bytes[MONTH] % CENTURY);
+        let days = Digits::unpack(self.bytes[DAY]);
+        Date::spelt(century, years, months, days)
+    }
+
+    fn weekday(&self) -> u8 {
+        self.bytes[WEEKDAY]
+    }
+
+    fn put_second(&mut self, second: u8) {
+        self.bytes[SECONDS] = number_cell(second);
+    }
+
+    fn put_minute(&mut self, minute: u8) {
+        self.bytes[MINUTES] = number_cell(minute);
+    }
+
+    fn put_hour(&mut self, mode: HourMode, hour: u8) {
+        self.bytes[HOURS] = hour_cell(mode, hour);
+    }
+
+    fn put_weekday(&mut self, weekday: u8) {
+        self.bytes[WEEKDAY] = weekday;
+    }
+
+    fn put_date(&mut self, date: Date) {
+        self.bytes[DAY] = number_cell(date.day);
+        self.bytes[MONTH] = month_cell(date.year, date.month);
+        self.bytes[YEAR] = number_cell(date.year % 100);
+    }
 }

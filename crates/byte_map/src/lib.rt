@@ -1,5 +1,5 @@
 // The register map of seven packed decimal cells, over two centuries.
 #![tactic(auto)]
 
-mod cells;
+pub mod cells;
 pub mod map;

@@ -2,7 +2,8 @@
 use Rattle.std.proofs.Common.{◌≡◌, ℕ, ◌+◌, ◌%◌, List, Some, None, Option, sym, refl, ap, ◌∙◌, subst, arith}
 use Rattle.std.specs.Option.{option_map}
 use Rattle.std.proofs.lemmas.Bool.{eq-eqb, ne_eqb}
-use Rattle.register_map.specs.Chart.{Chart, Shown, Showable, Lawful, map_state, weekday_after, second_of, second_after, advanced_from, advanced}
+use Rattle.register_map.specs.Chart.{Chart, Showable, Lawful, map_state, weekday_after, second_of, second_after, advanced_from, advanced}
+use Rattle.register_map.specs.declared.shown.Shown.{Shown}
 use Rattle.register_map.specs.declared.hour_mode.HourMode.{HourMode}
 use Rattle.calendar.specs.Dates.{next_date}
 use Rattle.calendar.specs.Times.{second_of_day, next_time}

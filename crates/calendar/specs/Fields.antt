@@ -1,7 +1,8 @@
 -- What the cells of a calendar spell: a date, a time of day and a weekday. A map that writes and reads these has a chart.
 use Rattle.std.specs.Prelude.{◌≡◌, ℕ, ◌<◌, ◌≤◌, cond, List, length, Some, Option, ◌==◌, bit_and, slice_index}
 use Rattle.std.specs.Option.{option_map}
-use Rattle.register_map.specs.Chart.{Chart, Shown, weekday_after}
+use Rattle.register_map.specs.Chart.{Chart, weekday_after}
+use Rattle.register_map.specs.declared.shown.Shown.{Shown}
 use Rattle.register_map.specs.declared.hour_mode.HourMode.{HourMode}
 use Rattle.calendar.specs.Times.{second_of_day, next_time}
 use Rattle.calendar.specs.Moments.{Civil, LawfulCivil, moment_of, civil_of, cycle_of, next_civil}

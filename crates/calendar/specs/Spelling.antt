@@ -1,5 +1,5 @@
 -- Dates and times of day in decimal digits.
-use Rattle.std.specs.Prelude.{ℕ, ◌+◌, ◌*◌, Some, None, Option}
+use Rattle.std.specs.Prelude.{ℕ, ◌+◌, ◌*◌, cond, Some, None, Option, nat_lt}
 use Rattle.register_map.specs.declared.hour_mode.HourMode.{HourMode}
 use Rattle.calendar.specs.declared.digits.Digits.{Digits}
 use Rattle.calendar.specs.Digits.{number_of, hour_of}
@@ -24,3 +24,7 @@ date_spelt century years months days =
     then (number_of years) λ year.
     then (number_of months) λ month.
     then (number_of days) λ day. existing_date (100 * century + year) month day
+
+-- The weekday in its cell, if there is one.
+abbrev pub weekday_in : ℕ → Option ℕ
+weekday_in cell = cond (nat_lt cell 7) (Some cell) None

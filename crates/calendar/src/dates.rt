@@ -106,7 +106,7 @@ impl Date {
         first_day(self.year) + days_before(self.year, self.month) as u32 + (self.day - 1) as u32
     }
 
-    // The date after this one, round a number of years.
+    // The date after this one, round a number of years. The bound is the caller's: a date serves maps of one century and of two.
     pub fn next(self, years: u8) -> Date
         requires { self.year < years }
         ensures { date_of result ≡ next_date years (date_of self) }

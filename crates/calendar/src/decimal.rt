@@ -1,23 +1,10 @@
-// Numbers and hours in decimal digits, and two digits in one cell.
-ghost use Rattle.std.specs.Prelude.{◌≡◌, ◌<◌, ◌≤◌};
-ghost use Rattle.calendar.specs.Digits.{digits_of, number_of, packed, unpacked, hour_digits, half_day, hour_of};
+// Numbers in decimal digits, and two digits in one cell.
+ghost use Rattle.std.specs.Prelude.{◌≡◌, ◌<◌};
+ghost use Rattle.calendar.specs.Digits.{digits_of, number_of, packed, unpacked};
 
 use crate::digits::Digits;
-use register_map::hour_mode::HourMode;
 
-// The hour of the half day that begins at a given hour: 12, then 1 to 11.
-fn hour_of_half(begin: u8, tens: u8, units: u8) -> Option<u8>
-    requires { begin ≤ 12 }
-    ensures { result ≡ half_day begin tens units }
-{
-    let face = 10 * tens as u16 + units as u16;
-    if units < 10 && 0 < face && face <= 12 {
-        Some(begin + (face % 12) as u8)
-    } else {
-        None
-    }
-}
-
+// By name: a number and a cell are both a byte, so neither is the one From.
 impl Digits {
     // The two digits of a number below 100.
     pub fn of(number: u8) -> Digits
@@ -55,49 +42,6 @@ impl Digits {
         Digits {
             tens: cell / 16,
             units: cell % 16,
-        }
-    }
-
-    // The digits of an hour; in 12-hour mode the afternoon adds `mark` to the tens.
-    pub fn of_hour(mode: HourMode, mark: u8, hour: u8) -> Digits
-        requires { (hour < 24) × (mark ≤ 14) }
-        ensures { result ≡ hour_digits mode mark hour }
-    {
-        match mode {
-            HourMode::TwentyFour => Digits::of(hour),
-            HourMode::Twelve => {
-                let face = Digits::of((hour + 11) % 12 + 1);
-                if hour < 12 {
-                    face
-                } else {
-                    Digits {
-                        tens: face.tens + mark,
-                        units: face.units,
-                    }
-                }
-            }
-        }
-    }
-
-    // The hour spelt, or none where these are not the digits of an hour.
-    pub fn hour(self, mode: HourMode, mark: u8) -> Option<u8>
-        ensures { result ≡ hour_of mode mark self }
-    {
-        match mode {
-            HourMode::TwentyFour => {
-                if self.units < 10 && 10 * self.tens as u16 + (self.units as u16) < 24 {
-                    Some(10 * self.tens + self.units)
-                } else {
-                    None
-                }
-            }
-            HourMode::Twelve => {
-                if self.tens < mark {
-                    hour_of_half(0, self.tens, self.units)
-                } else {
-                    hour_of_half(12, self.tens - mark, self.units)
-                }
-            }
         }
     }
 }

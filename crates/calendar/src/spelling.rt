@@ -6,21 +6,20 @@ ghost use Rattle.calendar.specs.Views.{date_of, time_of};
 
 use crate::date::Date;
 use crate::digits::Digits;
+use crate::hour_face::HourFace;
 use crate::time_of_day::TimeOfDay;
-use register_map::hour_mode::HourMode;
 
 impl TimeOfDay {
-    // The time spelt, or none; in 12-hour mode the afternoon adds `mark` to the tens of the hour.
+    // The time spelt, or none.
     pub fn spelt(
-        mode: HourMode,
-        mark: u8,
+        face: HourFace,
         hours: Digits,
         minutes: Digits,
         seconds: Digits,
     ) -> Option<TimeOfDay>
-        ensures { option_map time_of result ≡ time_spelt mode mark hours minutes seconds }
+        ensures { option_map time_of result ≡ time_spelt face.mode face.mark hours minutes seconds }
     {
-        let hour = hours.hour(mode, mark)?;
+        let hour = face.hour(hours)?;
         let minute = minutes.number()?;
         let second = seconds.number()?;
         TimeOfDay::new(hour, minute, second)

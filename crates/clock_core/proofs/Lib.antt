@@ -1,3 +1,3 @@
-pub mod Copies
+pub mod Rows
 pub mod Runs
 pub mod Values

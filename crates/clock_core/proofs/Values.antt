@@ -2,7 +2,8 @@
 use Rattle.std.proofs.Common.{◌≡◌, ℕ, ◌+◌, ◌%◌, Bool, true, Some, None, Option, sym, ap, ◌∙◌, arith}
 use native.Mathlib.Nat.{mod-mod_of_dvd, dvd_of_mod-eq-zero}
 use Rattle.std.specs.Option.{option_map}
-use Rattle.register_map.specs.Chart.{Chart, Shown, Lawful, second_of, second_after}
+use Rattle.register_map.specs.declared.shown.Shown.{Shown}
+use Rattle.register_map.specs.Chart.{Chart, Lawful, second_of, second_after}
 use Rattle.clock_core.specs.Core.{counted_value}
 
 -- A cycle is whole minutes, so going round it keeps the seconds value.

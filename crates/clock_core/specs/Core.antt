@@ -5,7 +5,8 @@ use Rattle.refusals.specs.declared.Refusal.{Refusal}
 use Rattle.refusals.specs.declared.Refusal.TheVariants.{NoSuchMoment, NoSuchSetting, TooManyPulses, ShortBuffer, NoSuchCell, ShowsNone, AlreadyHeld, NotHeld}
 use Rattle.register_map.specs.declared.hour_mode.HourMode.{HourMode}
 use Rattle.register_map.specs.declared.hour_mode.HourMode.TheVariants.{Twelve, TwentyFour}
-use Rattle.register_map.specs.Chart.{Chart, Shown, MapState, map_state, shown_by, second_of, second_after, advanced, put_byte, set_mode}
+use Rattle.register_map.specs.declared.shown.Shown.{Shown}
+use Rattle.register_map.specs.Chart.{Chart, MapState, map_state, shown_by, second_of, second_after, advanced, put_byte, set_mode}
 use Rattle.clock_core.specs.Seconds.{second_pulses}
 
 -- A core: its map, its trim, where it stands in the running second and how long that is,

@@ -5,13 +5,13 @@ ghost use Rattle.register_map.specs.Chart.{shown_by};
 ghost use Rattle.clock_core.specs.Core.{begin_second, cross_boundary, pulses_left, run_to_boundary, give_pulses, counted_value};
 ghost use Rattle.clock_core.specs.View.{meant};
 
-use crate::clock::ClockCore;
+use crate::clock::{ClockCore, Hold};
 use crate::seconds::length_of_second;
 use refusals::Refusal;
 use register_map::map::RegisterMap;
 
 // The most pulses of one call.
-const MOST_PULSES: u64 = 1_048_576;
+pub const MOST_PULSES: u64 = 1_048_576;
 
 // The seconds value one second later.
 fn value_after(value: u8) -> u8
@@ -26,10 +26,8 @@ impl<M: RegisterMap> ClockCore<M> {
     fn counted_seconds(&self) -> Option<u8>
         ensures { result ≡ option_map (counted_value M.RegisterMap.chart (meant M.RegisterMap self.now).waits) (shown_by M.RegisterMap.chart (meant M.RegisterMap self.now).map) }
     {
-        let Some(value) = self.map.seconds_value() else {
-            return None;
-        };
-        if self.boundary_waits {
+        let value = self.map.seconds_value()?;
+        if self.boundary_waits() {
             Some(value_after(value))
         } else {
             Some(value)
@@ -49,10 +47,15 @@ impl<M: RegisterMap> ClockCore<M> {
     fn cross_boundary(&mut self)
         ensures { meant M.RegisterMap self.new ≡ cross_boundary M.RegisterMap.chart (meant M.RegisterMap self.old) }
     {
-        if self.held {
-            self.boundary_waits = true;
-        } else {
-            self.map.advance();
+        match self.hold {
+            Hold::Held { .. } => {
+                self.hold = Hold::Held {
+                    boundary_waits: true,
+                };
+            }
+            Hold::Released => {
+                self.map.advance();
+            }
         }
         self.begin_second();
     }

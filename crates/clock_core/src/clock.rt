@@ -1,7 +1,14 @@
 // The core's record, with what every core keeps.
-ghost use Rattle.std.specs.Prelude.{◌≡◌, ◌<◌, ◌≤◌, false};
+ghost use Rattle.std.specs.Prelude.{◌<◌, ◌≤◌};
 
 use refusals::Refusal;
+
+// Released, or held; only a held core has a boundary that may wait.
+#[derive(Clone, Copy, PartialEq, Eq, Debug)]
+pub enum Hold {
+    Released,
+    Held { boundary_waits: bool },
+}
 
 #[derive(Drop)]
 pub struct ClockCore<M> {
@@ -9,13 +16,11 @@ pub struct ClockCore<M> {
     pub trim: u8,
     pub position: u32,
     pub second_length: u32,
-    pub held: bool,
-    pub boundary_waits: bool,
+    pub hold: Hold,
     ghost trim_in_range: { trim < 128 },
     ghost within_second: { position < second_length },
     ghost shortest: { 32644 ≤ second_length },
     ghost longest: { second_length ≤ 32892 },
-    ghost released_clear: { (held ≡ false → boundary_waits ≡ false) },
 }
 
 // A refused make gives the map back.

@@ -7,4 +7,5 @@ pub mod clock;
 pub mod holding;
 pub mod making;
 pub mod seconds;
+pub mod setting;
 pub mod settings;

@@ -3,7 +3,7 @@ ghost use Rattle.std.specs.Prelude.{◌≡◌};
 ghost use Rattle.clock_core.specs.Core.{set_trim, set_core_mode, restart_second};
 ghost use Rattle.clock_core.specs.View.{meant};
 
-use crate::clock::ClockCore;
+use crate::clock::{ClockCore, Hold};
 use register_map::hour_mode::HourMode;
 use register_map::map::RegisterMap;
 
@@ -25,7 +25,11 @@ impl<M: RegisterMap> ClockCore<M> {
     pub fn restart_second(&mut self)
         ensures { meant M.RegisterMap self.new ≡ restart_second M.RegisterMap.chart (meant M.RegisterMap self.old) }
     {
-        self.boundary_waits = false;
+        if self.is_held() {
+            self.hold = Hold::Held {
+                boundary_waits: false,
+            };
+        }
         self.begin_second();
     }
 }

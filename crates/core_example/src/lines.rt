@@ -1,6 +1,7 @@
-// How a call and its answer are printed.
+// How a call and its answer are printed. The words are this program's own, so they are no Display of the calls.
 use byte_map::map::ByteMap;
 use clock_core::clock::ClockCore;
+use refusals::Refusal;
 use register_map::hour_mode::HourMode;
 use std::io;
 use timekeeping::call::{CoreAnswer, CoreCall};
@@ -30,15 +31,15 @@ fn print_registers(rt: &HostRuntime, registers: [u8; 16]) -> io::Result<()> {
     )
 }
 
-pub(crate) fn print_answer(rt: &HostRuntime, answer: CoreAnswer) -> io::Result<()> {
+pub(crate) fn print_answer(
+    rt: &HostRuntime,
+    answer: Result<CoreAnswer, Refusal>,
+) -> io::Result<()> {
     match answer {
-        CoreAnswer::Accepted => println!(rt; "accepted"),
-        CoreAnswer::Byte(byte) => println!(rt; "{byte:02X}h"),
-        CoreAnswer::Registers(registers) => print_registers(rt, registers),
-        CoreAnswer::Refused(why) => {
-            let number = why.number();
-            println!(rt; "refused with {number}")
-        }
+        Ok(CoreAnswer::Accepted) => println!(rt; "accepted"),
+        Ok(CoreAnswer::Byte(byte)) => println!(rt; "{byte:02X}h"),
+        Ok(CoreAnswer::Registers(registers)) => print_registers(rt, registers),
+        Err(why) => println!(rt; "{why}"),
     }
 }
 

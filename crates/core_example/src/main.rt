@@ -4,13 +4,13 @@
 mod calls;
 mod lines;
 
-use anyhow::anyhow;
 use byte_map::map::ByteMap;
 use calls::CALLS;
 use clock_core::clock::ClockCore;
 use lines::{print_answer, print_call, print_core};
 use register_map::hour_mode::HourMode;
 use register_map::map::RegisterMap;
+use register_map::shown::Shown;
 use timekeeping::work::work_calls;
 
 // 13:59:58 on 17 July 2026, a Friday: 36,525 days from 1900 to 2000, 9,694 days more, and the time of day.
@@ -25,14 +25,15 @@ const TRIM: u32 = 0x07;
 fn map_at_the_moment() -> ByteMap {
     let mut map = ByteMap::fresh();
     map.set_hour_mode(HourMode::TwentyFour);
-    map.show(MOMENT, FRIDAY);
+    map.show(Shown {
+        moment: MOMENT,
+        weekday: FRIDAY,
+    });
     map
 }
 
 fn run(rt: &HostRuntime) -> anyhow::Result<()> {
-    let Ok(mut core) = ClockCore::make(map_at_the_moment(), TRIM) else {
-        return Err(anyhow!("the core was not made"));
-    };
+    let mut core = ClockCore::make(map_at_the_moment(), TRIM).map_err(|refused| refused.refusal)?;
     print_core(rt, &core)?;
     let answers = work_calls(rt.alloc(), &mut core, &CALLS)?;
     for (call, answer) in CALLS.iter().zip(answers.iter()) {

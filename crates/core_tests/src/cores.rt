@@ -3,6 +3,8 @@ use byte_map::map::ByteMap;
 use clock_core::clock::ClockCore;
 use register_map::hour_mode::HourMode;
 use register_map::map::RegisterMap;
+use register_map::shown::Shown;
+use std::array;
 use std::test::Fail;
 
 // 17 July 2026, 00:00:00: 36,525 days from 1900 to 2000, and 9,694 days more.
@@ -16,16 +18,16 @@ pub(crate) const PLAIN_SECOND: u64 = 32_768;
 pub(crate) fn map_at(mode: HourMode, time: u32) -> ByteMap {
     let mut map = ByteMap::fresh();
     map.set_hour_mode(mode);
-    map.show(MIDNIGHT + u64::from(time % 86_400), FRIDAY);
+    map.show(Shown {
+        moment: MIDNIGHT + u64::from(time % 86_400),
+        weekday: FRIDAY,
+    });
     map
 }
 
 // A new core over such a map.
 pub(crate) fn core_at(mode: HourMode, time: u32, trim: u32) -> Result<ClockCore<ByteMap>, Fail> {
-    match ClockCore::make(map_at(mode, time), trim) {
-        Ok(core) => Ok(core),
-        Err(_) => Err(Fail::new("not made")),
-    }
+    ClockCore::make(map_at(mode, time), trim).map_err(|_| Fail::new("not made"))
 }
 
 // Pulses in calls of whole seconds and a rest.
@@ -57,9 +59,10 @@ pub(crate) fn whole_seconds(a: i64, value: u32, pulses: u32) -> u64 {
 
 // The seconds that the calendar has moved since a time of the day.
 pub(crate) fn seconds_since(core: &ClockCore<ByteMap>, time: u32) -> Result<u64, Fail> {
-    let (moment, _) = core.map.shown().ok_or("shows none")?;
+    let shown = core.map.shown().ok_or("shows none")?;
     Ok(
-        moment
+        shown
+            .moment
             .checked_sub(MIDNIGHT + u64::from(time))
             .ok_or("went back")?,
     )
@@ -67,9 +70,5 @@ pub(crate) fn seconds_since(core: &ClockCore<ByteMap>, time: u32) -> Result<u64,
 
 // The seven calendar cells, read one by one.
 pub(crate) fn cells_read(core: &ClockCore<ByteMap>) -> Result<[u8; 7], Fail> {
-    let mut cells = [0u8; 7];
-    for cell in 0..7 {
-        cells[cell] = core.read(cell)?;
-    }
-    Ok(cells)
+    Ok(array::try_from_fn(|cell| core.read(cell))?)
 }

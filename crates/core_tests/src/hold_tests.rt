@@ -1,7 +1,7 @@
 // Held stretches: what waits, what is lost, and what is read meanwhile.
 use crate::cores::{cells_read, core_at, give, seconds_since, whole_seconds};
+use clock_core::cells::Registers;
 use register_map::hour_mode::HourMode;
-use register_map::map::RegisterMap;
 use std::test::Fail;
 
 // Held one pulse before a trimmed second of 32,644 pulses: one boundary at once, and the next 32,644 pulses later.
@@ -54,15 +54,14 @@ fn a_carry_is_not_seen_while_held(rt: HostRuntime) -> Result<(), Fail> {
     let mut core = core_at(HourMode::TwentyFour, 50_399, 0)?;
     core.pulses(32_760)?;
     core.hold()?;
-    for cell in [0x59, 0x59, 0x13, 0x05, 0x17, 0x87, 0x26]
+    for (number, byte) in [0x59, 0x59, 0x13, 0x05, 0x17, 0x87, 0x26]
         .iter()
         .enumerate()
     {
-        let (number, byte) = cell;
         assert_eq!(rt; core.read(number)?, *byte);
         core.pulses(4)?;
     }
-    assert!(rt; core.boundary_waits);
+    assert!(rt; core.boundary_waits());
     let mut sixteen = [0xAAu8; 16];
     core.look(&mut sixteen)?;
     assert_eq!(rt;

@@ -1,4 +1,4 @@
-// Tests of the core over the byte map: what no contract says of one call alone is tried here on runs.
+// What the calls of the traits promise of a core, and tests of it over the byte map: what no contract says of one call alone is tried here on runs.
 #![tactic(auto)]
 
 #[cfg(test)]
@@ -13,5 +13,6 @@ mod hour_tests;
 mod model;
 #[cfg(test)]
 mod model_tests;
+pub mod promises;
 #[cfg(test)]
 mod refusal_tests;

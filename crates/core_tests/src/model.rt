@@ -1,4 +1,7 @@
 // The core written again for comparison, one pulse at a time, with a calendar of whole minutes and a seconds cell.
+use clock_core::clock::Hold;
+use refusals::Refusal;
+use register_map::shown::Shown;
 use timekeeping::call::CoreCall;
 
 #[derive(Clone, Copy)]
@@ -11,8 +14,7 @@ pub(crate) struct Model {
     pub(crate) trim: u8,
     pub(crate) position: i64,
     pub(crate) length: i64,
-    pub(crate) held: bool,
-    pub(crate) waits: bool,
+    pub(crate) hold: Hold,
 }
 
 // Two decimal digits.
@@ -40,8 +42,7 @@ impl Model {
             trim,
             position: 0,
             length: 0,
-            held: false,
-            waits: false,
+            hold: Hold::Released,
         };
         model.begin();
         model
@@ -58,20 +59,24 @@ impl Model {
         }
     }
 
-    pub(crate) fn shown(&self) -> Option<(u64, u8)> {
+    pub(crate) fn shown(&self) -> Option<Shown> {
         let value = self.value()?;
         let moment = self.minute.checked_mul(60)?.checked_add(u64::from(value))?;
-        Some((moment, self.weekday))
+        Some(Shown {
+            moment,
+            weekday: self.weekday,
+        })
     }
 
     fn begin(&mut self) {
         self.position = 0;
         self.length = 32_768;
         if let Some(value) = self.value() {
-            let counted = if self.waits {
-                value.wrapping_add(1)
-            } else {
-                value
+            let counted = match self.hold {
+                Hold::Held {
+                    boundary_waits: true,
+                } => value.wrapping_add(1),
+                _ => value,
             };
             if counted % 20 == 0 {
                 self.length = trim_pulses(self.trim).wrapping_add(32_768);
@@ -101,63 +106,71 @@ impl Model {
         if self.position < self.length {
             return;
         }
-        if self.held {
-            self.waits = true;
-        } else {
-            self.advance();
+        match self.hold {
+            Hold::Held { .. } => {
+                self.hold = Hold::Held {
+                    boundary_waits: true,
+                };
+            }
+            Hold::Released => self.advance(),
         }
         self.begin();
     }
 
-    fn pulses(&mut self, count: u64) -> u8 {
+    fn pulses(&mut self, count: u64) -> Result<(), Refusal> {
         if count > 1_048_576 {
-            return 3;
+            return Err(Refusal::TooManyPulses);
         }
         for _ in 0..count {
             self.pulse();
         }
-        0
+        Ok(())
     }
 
-    fn hold(&mut self) -> u8 {
-        if self.held {
-            return 9;
+    fn hold(&mut self) -> Result<(), Refusal> {
+        if self.hold != Hold::Released {
+            return Err(Refusal::AlreadyHeld);
         }
-        self.held = true;
-        0
+        self.hold = Hold::Held {
+            boundary_waits: false,
+        };
+        Ok(())
     }
 
-    fn release(&mut self) -> u8 {
-        if !self.held {
-            return 10;
-        }
-        if self.waits {
+    fn release(&mut self) -> Result<(), Refusal> {
+        let Hold::Held { boundary_waits } = self.hold else {
+            return Err(Refusal::NotHeld);
+        };
+        if boundary_waits {
             self.advance();
         }
-        self.held = false;
-        self.waits = false;
-        0
+        self.hold = Hold::Released;
+        Ok(())
     }
 
     fn restart(&mut self) {
-        self.waits = false;
+        if let Hold::Held { .. } = self.hold {
+            self.hold = Hold::Held {
+                boundary_waits: false,
+            };
+        }
         self.begin();
     }
 
-    // Does a call; answers the number of its refusal, or 0. Of the calendar only the seconds cell is written.
-    pub(crate) fn call(&mut self, call: CoreCall) -> u8 {
+    // Does a call. Of the calendar only the seconds cell is written.
+    pub(crate) fn call(&mut self, call: CoreCall) -> Result<(), Refusal> {
         match call {
             CoreCall::Pulses(count) => return self.pulses(count),
             CoreCall::Hold => return self.hold(),
             CoreCall::Release => return self.release(),
-            CoreCall::Read(cell) if cell > 6 => return 7,
-            CoreCall::Write(cell, _) if cell > 6 => return 7,
-            CoreCall::Look(room) if room < 16 => return 6,
+            CoreCall::Read(cell) if cell > 6 => return Err(Refusal::NoSuchCell),
+            CoreCall::Write(cell, _) if cell > 6 => return Err(Refusal::NoSuchCell),
+            CoreCall::Look(room) if room < 16 => return Err(Refusal::ShortBuffer),
             CoreCall::Write(_, byte) => self.seconds = byte % 128,
             CoreCall::SetTrim(byte) => self.trim = byte % 128,
             CoreCall::RestartSecond => self.restart(),
             CoreCall::Read(_) | CoreCall::Look(_) | CoreCall::SetHourMode(_) => {}
         }
-        0
+        Ok(())
     }
 }

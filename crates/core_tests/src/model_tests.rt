@@ -1,13 +1,12 @@
 // Long runs of calls drawn from a simple generator, compared with the model after each call.
 use crate::model::Model;
-use crate::refusal_tests::refusal_number;
 use byte_map::map::ByteMap;
 use clock_core::clock::ClockCore;
-use register_map::hour_mode::HourMode;
+use clock_core::setting::Setting;
 use std::process::Abort;
 use std::test::Fail;
 use timekeeping::call::CoreCall;
-use timekeeping::work::do_call;
+use timekeeping::work::Call;
 
 // Draws calls: the first ten kinds hold, release and give pulses, the others write and restart too.
 #[derive(Drop)]
@@ -42,17 +41,21 @@ impl Draw {
 
 fn agrees(core: &ClockCore<ByteMap>, model: &Model) -> bool {
     core.map.shown() == model.shown()
-        && core.map.cells[0] == model.seconds
+        && core.map.cells.bytes[0] == model.seconds
         && core.trim == model.trim
         && i64::from(core.position) == model.position
         && i64::from(core.second_length) == model.length
-        && core.held == model.held
-        && core.boundary_waits == model.waits
+        && core.hold == model.hold
 }
 
 fn runs_alike(rt: &impl Abort, moment: u64, trim: u8, kinds: u64) -> Result<(), Fail> {
     let mut core = ClockCore::idle(ByteMap::fresh());
-    core.load(moment, 6, u32::from(trim), 1)?;
+    core.load(Setting {
+        moment,
+        weekday: 6,
+        trim: u32::from(trim),
+        mode: 1,
+    })?;
     let mut model = Model::new(moment, 6, trim);
     let mut draw = Draw {
         state: moment,
@@ -60,7 +63,7 @@ fn runs_alike(rt: &impl Abort, moment: u64, trim: u8, kinds: u64) -> Result<(), 
     };
     for _ in 0..400 {
         let call = draw.call();
-        assert_eq!(rt; refusal_number(do_call(&mut core, call)), model.call(call));
+        assert_eq!(rt; call.call(&mut core).map(|_| ()), model.call(call));
         assert!(rt; agrees(&core, &model), "not as the model");
     }
     Ok(())

@@ -1,27 +1,24 @@
 // What each call refuses, by number, and that a refused call changes nothing.
 use crate::cores::{MIDNIGHT, core_at, map_at};
 use byte_map::map::ByteMap;
+use clock_core::cells::Registers;
 use clock_core::clock::ClockCore;
+use clock_core::setting::Setting;
 use refusals::Refusal;
 use register_map::hour_mode::HourMode;
 use register_map::map::RegisterMap;
+use register_map::shown::Shown;
 use std::test::Fail;
-use timekeeping::call::{CoreAnswer, CoreCall};
-use timekeeping::work::do_call;
+use timekeeping::call::CoreCall;
+use timekeeping::work::Call;
 
 // The number of a refusal, or 0.
-pub(crate) fn refusal_number(answer: CoreAnswer) -> u8 {
-    match answer {
-        CoreAnswer::Refused(why) => why.number(),
-        _ => 0,
-    }
+fn refusal_number<T: Drop>(answer: Result<T, Refusal>) -> u8 {
+    answer.err().map_or(0, u8::from)
 }
 
 fn make_number(map: ByteMap, trim: u32) -> u8 {
-    match ClockCore::make(map, trim) {
-        Ok(_) => 0,
-        Err(refused) => refused.refusal.number(),
-    }
+    refusal_number(ClockCore::make(map, trim).map_err(|refused| refused.refusal))
 }
 
 // A trim over 127 is refused before a map that shows none.
@@ -46,16 +43,9 @@ fn make_gives_the_map_back(rt: HostRuntime) -> Result<(), Fail> {
     match ClockCore::make(map_at(HourMode::TwentyFour, 1), 128) {
         Ok(_) => Err(Fail::new("made")),
         Err(refused) => {
-            assert_eq!(rt; refused.map.cells, [0x01, 0, 0, 5, 0x17, 0x87, 0x26]);
+            assert_eq!(rt; refused.map.cells.bytes, [0x01, 0, 0, 5, 0x17, 0x87, 0x26]);
             Ok(())
         },
-    }
-}
-
-fn result_number(res: Result<(), Refusal>) -> u8 {
-    match res {
-        Ok(()) => 0,
-        Err(why) => why.number(),
     }
 }
 
@@ -73,10 +63,19 @@ fn load_refuses(rt: HostRuntime) -> Result<(), Fail> {
     for (moment, weekday, trim, mode, number) in rows {
         let mut core = core_at(HourMode::TwentyFour, 0, 0)?;
         assert_eq!(rt;
-            result_number(core.load(moment, weekday, trim, mode)),
+            refusal_number(core.load(Setting {
+                moment,
+                weekday,
+                trim,
+                mode
+            })),
             number
         );
-        let kept = core.map.shown() == Some((MIDNIGHT, 5));
+        let kept = core.map.shown()
+            == Some(Shown {
+                moment: MIDNIGHT,
+                weekday: 5,
+            });
         assert_eq!(rt; kept, number != 0);
     }
     Ok(())
@@ -108,12 +107,12 @@ const CALLS: [(CoreCall, u8); 19] = [
 // Everything that a call could change.
 fn all_of(core: &ClockCore<ByteMap>) -> ([u8; 7], u8, u32, u32, bool, bool) {
     (
-        core.map.cells,
+        core.map.cells.bytes,
         core.trim,
         core.position,
         core.second_length,
-        core.held,
-        core.boundary_waits,
+        core.is_held(),
+        core.boundary_waits(),
     )
 }
 
@@ -122,7 +121,7 @@ fn calls_refuse_and_change_nothing(rt: HostRuntime) -> Result<(), Fail> {
     let mut core = core_at(HourMode::TwentyFour, 0, 0x07)?;
     for (call, number) in CALLS {
         let before = all_of(&core);
-        assert_eq!(rt; refusal_number(do_call(&mut core, call)), number);
+        assert_eq!(rt; refusal_number(call.call(&mut core)), number);
         assert!(rt; number == 0 || all_of(&core) == before);
     }
     Ok(())
@@ -133,7 +132,7 @@ fn calls_refuse_and_change_nothing(rt: HostRuntime) -> Result<(), Fail> {
 fn look_keeps_the_rest(rt: HostRuntime) -> Result<(), Fail> {
     let core = core_at(HourMode::TwentyFour, 1, 0)?;
     let mut buffer = [0xAAu8; 20];
-    assert_eq!(rt; result_number(core.look(&mut buffer[0..15])), 6);
+    assert_eq!(rt; refusal_number(core.look(&mut buffer[0..15])), 6);
     assert_eq!(rt; buffer, [0xAA; 20]);
     core.look(&mut buffer)?;
     let seen = [

@@ -1,11 +1,11 @@
 -- The digit map: thirteen cells of four bits, units before tens, which are the seconds, minutes, hours, day, month, year and weekday.
-use Rattle.std.specs.Prelude.{ℕ, ◌+◌, cond, List, [], ◌∷◌, length, Some, None, Option, ◌==◌, nat_lt, slice_index, slice_set}
+use Rattle.std.specs.Prelude.{ℕ, ◌+◌, cond, List, [], ◌∷◌, length, Some, None, Option, ◌==◌, slice_index, slice_set}
 use Rattle.register_map.specs.Chart.{Chart}
 use Rattle.register_map.specs.declared.hour_mode.HourMode.{HourMode}
 use Rattle.calendar.specs.Moments.{civil}
 use Rattle.calendar.specs.declared.digits.Digits.{Digits}
 use Rattle.calendar.specs.Digits.{digits, digits_of, hour_digits}
-use Rattle.calendar.specs.Spelling.{then, time_spelt, date_spelt}
+use Rattle.calendar.specs.Spelling.{then, time_spelt, date_spelt, weekday_in}
 use Rattle.calendar.specs.Fields.{Fields, fields, chart_of}
 
 -- The used bits of each cell.
@@ -34,10 +34,6 @@ digits_in cells cell = digits (slice_index cells (cell + 1)) (slice_index cells 
 -- The cells with two digits written at a cell.
 abbrev pub digits_put : List ℕ → ℕ → Digits → List ℕ
 digits_put cells cell d = slice_set (slice_set cells cell d.units) (cell + 1) d.tens
-
--- The weekday in its cell, if there is one.
-abbrev pub weekday_in : ℕ → Option ℕ
-weekday_in cell = cond (nat_lt cell 7) (Some cell) None
 
 -- The fields that the cells spell, if they do; all years are of one century.
 unfoldable pub fields_in : HourMode → List ℕ → Option Fields

@@ -1,22 +1,23 @@
 -- The fields and the row that they are written in are each other's inverse, and a written row has no unused bit.
-use Rattle.std.specs.Prelude.{◌≡◌, ℕ, ◌/◌, ◌%◌, ◌<◌, List, map, length, replicate, Some, None, ◌==◌, bit_and, nat_lt, slice_index, slice_index_or, refl}
+use Rattle.std.specs.Prelude.{◌≡◌, ℕ, ◌/◌, ◌%◌, ◌<◌, ◌≤◌, List, map, length, replicate, Some, None, ◌==◌, bit_and, nat_lt, slice_index, slice_index_or, refl}
 use Rattle.std.proofs.Common.{sym, ap, subst, ◌∙◌, arith}
 use Rattle.std.specs.List.{range_with_len}
-use Rattle.std.proofs.lemmas.Bool.{lt-ltb, ltb-true, eqb-true}
+use Rattle.std.proofs.lemmas.Bool.{eq-eqb, lt-ltb, ltb-true, eqb-true}
 use Rattle.std.proofs.lemmas.List.FromFn.{fill_by_all}
 use Rattle.register_map.specs.Chart.{Lawful}
 use Rattle.register_map.specs.declared.hour_mode.HourMode.{HourMode}
 use Rattle.register_map.specs.declared.hour_mode.HourMode.TheVariants.{Twelve}
 use Rattle.calendar.specs.Moments.{civil}
 use Rattle.calendar.specs.Digits.{digits_of, hour_digits}
-use Rattle.calendar.specs.Spelling.{then, time_spelt, date_spelt}
+use Rattle.calendar.specs.Spelling.{then, time_spelt, date_spelt, weekday_in}
 use Rattle.calendar.specs.Fields.{Fields, fields, LawfulFields, Spells}
 use Rattle.calendar.proofs.MonthLaws.{day_at_most}
 use Rattle.calendar.proofs.DigitLaws.{passes, admits, hour_small}
 use Rattle.calendar.proofs.SpellingLaws.{first_read, time_spelt_is, SpellsTime, spells_time, date_spelt_as, SpellsDate, spells_date}
 use Rattle.calendar.proofs.CellLaws.{low_bits, masked_at, byte_at, same_row}
 use Rattle.calendar.proofs.FieldLaws.{lawful_chart}
-use Rattle.digit_map.specs.Cells.{used_bits, row, digits_in, weekday_in, fields_in, row_read, digit_chart}
+use Rattle.civil_map.specs.Changes.{fields_spelt}
+use Rattle.digit_map.specs.Cells.{used_bits, row, digits_in, fields_in, row_read, digit_chart}
 
 pub row_length : (m : HourMode) (f : Fields) → length (row m f) ≡ 13
 unfolding row
@@ -65,6 +66,11 @@ row_masked m f ok =
         ),
       ),
     )
+
+-- what thirteen cells spell, by their time of day, date and weekday
+pub row_spelt : (m : HourMode) (cells : List ℕ) → length cells ≡ 13 → row_read m cells ≡ fields_spelt (time_spelt m 4 (digits_in cells 4) (digits_in cells 2) (digits_in cells 0)) (date_spelt 0 (digits_in cells 10) (digits_in cells 8) (digits_in cells 6)) (slice_index cells 12)
+unfolding row_read fields_in
+row_spelt m cells h = rw (eq-eqb (length cells) 13 h)
 
 pub row_reads : (m : HourMode) (f : Fields) → LawfulFields 100 f → row_read m (row m f) ≡ Some f
 unfolding row row_read fields_in
@@ -165,6 +171,9 @@ spells =
       written_reads = row_reads;
       read_is_written = read_is_row;
     }
+
+pub years_fit : 100 ≤ 200
+years_fit = omega arith
 
 pub digit_chart_lawful : Lawful digit_chart
 digit_chart_lawful = lawful_chart 100 13 used_bits row row_read spells

@@ -1,5 +1,5 @@
 // The register map of thirteen decimal digits, over one century.
 #![tactic(auto)]
 
-mod cells;
+pub mod cells;
 pub mod map;

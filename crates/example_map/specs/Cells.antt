@@ -1,6 +1,7 @@
 -- The day map: four plain binary cells, which are the second, minute, hour and weekday, over a cycle of one day.
 use Rattle.std.specs.Prelude.{ℕ, ◌+◌, ◌*◌, ◌/◌, ◌%◌, Bool, cond, ◌&&◌, List, [], ◌∷◌, length, Some, None, Option, ◌==◌, nat_lt, slice_index}
-use Rattle.register_map.specs.Chart.{Chart, Shown}
+use Rattle.register_map.specs.Chart.{Chart}
+use Rattle.register_map.specs.declared.shown.Shown.{Shown}
 use Rattle.register_map.specs.declared.hour_mode.HourMode.{HourMode}
 
 -- The used bits of each cell.

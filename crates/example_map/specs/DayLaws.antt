@@ -4,7 +4,8 @@ use Rattle.std.proofs.Common.{sym, ap, subst, ◌∙◌, arith}
 use Rattle.std.specs.List.{range_with_len}
 use Rattle.std.proofs.lemmas.Bool.{lt-ltb, ltb-true, eqb-true, and_parts}
 use Rattle.std.proofs.lemmas.List.FromFn.{fill_by_all}
-use Rattle.register_map.specs.Chart.{Shown, Showable, Lawful}
+use Rattle.register_map.specs.Chart.{Showable, Lawful}
+use Rattle.register_map.specs.declared.shown.Shown.{Shown}
 use Rattle.register_map.specs.declared.hour_mode.HourMode.{HourMode}
 use Rattle.calendar.proofs.DigitLaws.{passes}
 use Rattle.calendar.proofs.CellLaws.{low_bits, masked_at, byte_at, same_row}

@@ -1,7 +1,8 @@
 -- The run that is held over its first boundary.
 use Rattle.std.proofs.Common.{◌≡◌, ℕ, ◌+◌, ◌-◌, ◌%◌, ◌<◌, ◌≤◌, Bool, true, false, cond, eqb, Some, Option, sym, ap, ◌∙◌, subst, arith, le-ltb}
 use Rattle.std.specs.Option.{option_map}
-use Rattle.register_map.specs.Chart.{Chart, Lawful, Shown, MapState, map_state, shown_by, second_of, second_after, advanced, advanced_from}
+use Rattle.register_map.specs.declared.shown.Shown.{Shown}
+use Rattle.register_map.specs.Chart.{Chart, Lawful, MapState, map_state, shown_by, second_of, second_after, advanced, advanced_from}
 use Rattle.clock_core.specs.Core.{CoreState, new_core, at_position, counted_value, many_pulses, cross_boundary, run_to_boundary, hold_core, release_core}
 use Rattle.clock_core.specs.Seconds.{second_pulses, trimmed_length}
 use Rattle.clock_core.proofs.Runs.{pulses_within, pulses_to_boundary, pulses_run}

@@ -1,7 +1,8 @@
 -- Figures established from the definitions of calendar, byte map, core and law.
 use Rattle.std.specs.Prelude.{◌≡◌, ℕ, List, [], ◌∷◌, pos, neg_ℤ, Some}
 use Rattle.register_map.specs.declared.hour_mode.HourMode.TheVariants.{TwentyFour}
-use Rattle.register_map.specs.Chart.{Chart, Lawful, Shown, MapState, shown_by, second_of, second_after}
+use Rattle.register_map.specs.declared.shown.Shown.{Shown}
+use Rattle.register_map.specs.Chart.{Chart, Lawful, MapState, shown_by, second_of, second_after}
 use Rattle.calendar.specs.Dates.{date}
 use Rattle.calendar.specs.Times.{time}
 use Rattle.calendar.specs.Moments.{civil, moment_of}

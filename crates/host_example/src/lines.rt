@@ -4,23 +4,26 @@ use rx5c348a_whole::part::Rx5c348a;
 use rx5c348a_whole::pins::Level;
 use std::io;
 
-fn print_refusal(rt: &HostRuntime, why: Refusal) -> io::Result<()> {
-    let number = why.number();
-    println!(rt; "refused with {number}")
+// An answer as it is shown, or its refusal.
+fn print_answer<T, F: FnOnce(T) -> io::Result<()>>(
+    rt: &HostRuntime,
+    answer: Result<T, Refusal>,
+    show: F,
+) -> io::Result<()>
+    requires { F.IsAlwaysCallable show }
+{
+    match answer {
+        Ok(given) => show(given),
+        Err(why) => println!(rt; "{why}"),
+    }
 }
 
 pub(crate) fn print_byte(rt: &HostRuntime, answer: Result<u8, Refusal>) -> io::Result<()> {
-    match answer {
-        Ok(byte) => println!(rt; "{byte:02X}h"),
-        Err(why) => print_refusal(rt, why),
-    }
+    print_answer(rt, answer, |byte| println!(rt; "{byte:02X}h"))
 }
 
 pub(crate) fn print_accepted(rt: &HostRuntime, answer: Result<(), Refusal>) -> io::Result<()> {
-    match answer {
-        Ok(()) => println!(rt; "accepted"),
-        Err(why) => print_refusal(rt, why),
-    }
+    print_answer(rt, answer, |()| println!(rt; "accepted"))
 }
 
 // The cells are packed decimal, so their hexadecimal digits are the digits of the time.
@@ -30,10 +33,7 @@ fn print_digits(rt: &HostRuntime, time: [u8; 3]) -> io::Result<()> {
 }
 
 pub(crate) fn print_time(rt: &HostRuntime, answer: Result<[u8; 3], Refusal>) -> io::Result<()> {
-    match answer {
-        Ok(time) => print_digits(rt, time),
-        Err(why) => print_refusal(rt, why),
-    }
+    print_answer(rt, answer, |time| print_digits(rt, time))
 }
 
 pub(crate) fn print_interrupt(rt: &HostRuntime, part: &Rx5c348a) -> io::Result<()> {

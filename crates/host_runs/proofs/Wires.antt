@@ -16,8 +16,7 @@ use Rattle.host_runs.specs.declared.call.SessionCall.{SessionCall}
 use Rattle.host_runs.specs.declared.call.SessionCall.TheVariants.{Open, Close, Read, Write, BurstRead, BurstWrite}
 use Rattle.host_runs.specs.declared.call.HostCall.{HostCall}
 use Rattle.host_runs.specs.declared.call.HostCall.TheVariants.{Wire, First, Second}
-use Rattle.host_runs.specs.declared.call.HostAnswer.{HostAnswer}
-use Rattle.host_runs.specs.Hosts.{Seat, IdleSeat, OpenSeat, SpentSeat, idle_step, open_step, spent_step, session_step, HostState, host_step, work_one, host_run}
+use Rattle.host_runs.specs.Hosts.{Answered, Seat, IdleSeat, OpenSeat, SpentSeat, idle_step, open_step, spent_step, session_step, HostState, host_step, work_one, host_run}
 use Rattle.host_runs.specs.Levels.{idle_levels, open_levels, spent_levels, session_levels, wire_calls_of, on_wires, part_after}
 
 -- the part after calls on it, one by one
@@ -108,9 +107,9 @@ run_on_wires s (call ∷ calls) =
     ∙ sym (in_parts s.part (wire_calls_of s call) (on_wires (host_step s call).1 calls))
 
 -- a list of hosts' calls leaves the part as the calls on it do
-pub ends_on_wires : (s t : HostState) (calls : List HostCall) (answers : List HostAnswer) → host_run s calls ≡ (answers, t) → t.part ≡ part_after s.part (on_wires s calls)
+pub ends_on_wires : (s t : HostState) (calls : List HostCall) (answers : List Answered) → host_run s calls ≡ (answers, t) → t.part ≡ part_after s.part (on_wires s calls)
 ends_on_wires s t calls answers e =
-    sym (ap (λ (r : List HostAnswer × HostState). r.1.part) e) ∙ run_on_wires s calls ∙ sym (ends_at s.part (on_wires s calls))
+    sym (ap (λ (r : List Answered × HostState). r.1.part) e) ∙ run_on_wires s calls ∙ sym (ends_at s.part (on_wires s calls))
 
 -- the list call by call
 pub run_none : (s : HostState) → host_run s [] ≡ ([], s)
@@ -121,12 +120,12 @@ run_push : (s : HostState) (calls : List HostCall) (call : HostCall) → host_ru
 unfolding host_run
 run_push s [] call = refl
 run_push s (c ∷ calls) call =
-    ap (λ (r : List HostAnswer × HostState). ((work_one s c).0 ∷ r.0, r.1)) (run_push (work_one s c).1 calls call)
+    ap (λ (r : List Answered × HostState). ((work_one s c).0 ∷ r.0, r.1)) (run_push (work_one s c).1 calls call)
 
-pub run_more : (s t u : HostState) (calls more : List HostCall) (call : HostCall) (answers longer : List HostAnswer) (answer : HostAnswer) → more ≡ calls ++ (call ∷ []) → host_run s calls ≡ (answers, t) → ◌≡◌ {A = HostAnswer × HostState} (answer, u) (work_one t call) → longer ≡ answers ++ (answer ∷ []) → host_run s more ≡ (longer, u)
+pub run_more : (s t u : HostState) (calls more : List HostCall) (call : HostCall) (answers longer : List Answered) (answer : Answered) → more ≡ calls ++ (call ∷ []) → host_run s calls ≡ (answers, t) → ◌≡◌ {A = Answered × HostState} (answer, u) (work_one t call) → longer ≡ answers ++ (answer ∷ []) → host_run s more ≡ (longer, u)
 run_more s t u calls more call answers longer answer e before done pushed =
     ap (host_run s) e
     ∙ run_push s calls call
-    ∙ ap (λ (r : List HostAnswer × HostState). (r.0 ++ (work_one r.1 call).0 ∷ [], (work_one r.1 call).1)) before
-    ∙ ap (λ (d : HostAnswer × HostState). (answers ++ d.0 ∷ [], d.1)) (sym done)
-    ∙ ap (λ (l : List HostAnswer). (l, u)) (sym pushed)
+    ∙ ap (λ (r : List Answered × HostState). (r.0 ++ (work_one r.1 call).0 ∷ [], (work_one r.1 call).1)) before
+    ∙ ap (λ (d : Answered × HostState). (answers ++ d.0 ∷ [], d.1)) (sym done)
+    ∙ ap (λ (l : List Answered). (l, u)) (sym pushed)

@@ -3,8 +3,7 @@ use Rattle.std.specs.Prelude.{ℕ, min, List, [], ◌∷◌, ◌++◌, length, t
 use Rattle.refusals.specs.declared.Refusal.{Refusal}
 use Rattle.clock_core.specs.Core.{Accepted}
 use Rattle.rx5c348a_whole.specs.Part.{PartState}
-use Rattle.rx5c348a_runs.specs.declared.call.WireAnswer.{WireAnswer}
-use Rattle.rx5c348a_runs.specs.Calls.{do_call}
+use Rattle.rx5c348a_runs.specs.Calls.{Answered as WireAnswered, work_one as wire_one}
 use Rattle.host_wires.specs.declared.record.PinRecord.{PinRecord}
 use Rattle.host_wires.specs.Record.{Wired, wired}
 use Rattle.host_sessions.specs.Sessions.{opened, closed, single_read, single_write, burst_read, burst_write}
@@ -13,7 +12,7 @@ use Rattle.host_runs.specs.declared.call.SessionCall.TheVariants.{Open, Close, R
 use Rattle.host_runs.specs.declared.call.HostCall.{HostCall}
 use Rattle.host_runs.specs.declared.call.HostCall.TheVariants.{Wire, First, Second}
 use Rattle.host_runs.specs.declared.call.HostAnswer.{HostAnswer}
-use Rattle.host_runs.specs.declared.call.HostAnswer.TheVariants.{Wire as WireSaid, Done, Byte, Moved, Refused, DoesNotBuild}
+use Rattle.host_runs.specs.declared.call.HostAnswer.TheVariants.{Wire as WireSaid, Done, Byte, Moved, DoesNotBuild}
 use Rattle.host_runs.specs.declared.session.HostSession.{HostSession}
 use Rattle.host_runs.specs.declared.session.HostSession.TheVariants.{Idle, Active, Spent}
 
@@ -28,23 +27,31 @@ seat (Idle s) = IdleSeat s.pins
 seat (Active s) = OpenSeat s.pins
 seat (Spent s) = SpentSeat s.pins
 
+-- What a call of hosts answers: what an accepted one gives, or why it is refused.
+abbrev pub Answered : Type 0
+Answered = Result HostAnswer Refusal
+
 -- What a call of a session answers, and the session, the part and the buffer after it.
 pub record Stepped : Type 0 where
-  pub answer : HostAnswer
+  pub answer : Answered
   pub session : Seat
   pub part : PartState
   pub buffer : List ℕ
 
-abbrev pub stepped : HostAnswer → Seat → PartState → List ℕ → Stepped
+abbrev pub stepped : Answered → Seat → PartState → List ℕ → Stepped
 stepped answer session part buffer = record { answer = answer; session = session; part = part; buffer = buffer }
 
-abbrev pub byte_or_refused : Result ℕ Refusal → HostAnswer
-byte_or_refused (Ok byte) = Byte byte
-byte_or_refused (Err why) = Refused why
+abbrev pub byte_answered : Result ℕ Refusal → Answered
+byte_answered (Ok byte) = Ok (Byte byte)
+byte_answered (Err why) = Err why
 
-abbrev pub done_or_refused : Accepted → HostAnswer
-done_or_refused (Ok _) = Done
-done_or_refused (Err why) = Refused why
+abbrev pub done_answered : Accepted → Answered
+done_answered (Ok _) = Ok Done
+done_answered (Err why) = Err why
+
+abbrev pub wire_answered : WireAnswered → Answered
+wire_answered (Ok answer) = Ok (WireSaid answer)
+wire_answered (Err why) = Err why
 
 -- A burst read into the front of a buffer, as far as it reaches: the bytes moved, the buffer, and both ends of the wires.
 abbrev pub into_front : ℕ × List ℕ × Wired → List ℕ → ℕ × List ℕ × Wired
@@ -55,37 +62,37 @@ burst_front address count buffer w =
     into_front (burst_read address (take (min count (length buffer)) buffer) w) (drop (min count (length buffer)) buffer)
 
 -- An idle session can only open.
-abbrev pub idle_step : PinRecord → PartState → SessionCall → HostAnswer × Seat × PartState
-idle_step pins p Open = (Done, OpenSeat (opened (wired pins p)).pins, (opened (wired pins p)).part)
-idle_step pins p Close = (DoesNotBuild, IdleSeat pins, p)
-idle_step pins p (Read _) = (DoesNotBuild, IdleSeat pins, p)
-idle_step pins p (Write _ _) = (DoesNotBuild, IdleSeat pins, p)
-idle_step pins p (BurstRead _ _) = (DoesNotBuild, IdleSeat pins, p)
-idle_step pins p (BurstWrite _ _) = (DoesNotBuild, IdleSeat pins, p)
+abbrev pub idle_step : PinRecord → PartState → SessionCall → Answered × Seat × PartState
+idle_step pins p Open = (Ok Done, OpenSeat (opened (wired pins p)).pins, (opened (wired pins p)).part)
+idle_step pins p Close = (Ok DoesNotBuild, IdleSeat pins, p)
+idle_step pins p (Read _) = (Ok DoesNotBuild, IdleSeat pins, p)
+idle_step pins p (Write _ _) = (Ok DoesNotBuild, IdleSeat pins, p)
+idle_step pins p (BurstRead _ _) = (Ok DoesNotBuild, IdleSeat pins, p)
+idle_step pins p (BurstWrite _ _) = (Ok DoesNotBuild, IdleSeat pins, p)
 
 -- An open one can do all else.
 abbrev pub open_step : PinRecord → PartState → List ℕ → SessionCall → Stepped
-open_step pins p buffer Open = stepped DoesNotBuild (OpenSeat pins) p buffer
-open_step pins p buffer Close = stepped Done (IdleSeat (closed (wired pins p)).pins) (closed (wired pins p)).part buffer
+open_step pins p buffer Open = stepped (Ok DoesNotBuild) (OpenSeat pins) p buffer
+open_step pins p buffer Close = stepped (Ok Done) (IdleSeat (closed (wired pins p)).pins) (closed (wired pins p)).part buffer
 open_step pins p buffer (Read address) =
-    stepped (byte_or_refused (single_read address (wired pins p)).0) (OpenSeat (single_read address (wired pins p)).1.pins) (single_read address (wired pins p)).1.part buffer
+    stepped (byte_answered (single_read address (wired pins p)).0) (OpenSeat (single_read address (wired pins p)).1.pins) (single_read address (wired pins p)).1.part buffer
 open_step pins p buffer (Write address byte) =
-    stepped (done_or_refused (single_write address byte (wired pins p)).0) (OpenSeat (single_write address byte (wired pins p)).1.pins) (single_write address byte (wired pins p)).1.part buffer
+    stepped (done_answered (single_write address byte (wired pins p)).0) (OpenSeat (single_write address byte (wired pins p)).1.pins) (single_write address byte (wired pins p)).1.part buffer
 open_step pins p buffer (BurstRead address count) =
-    stepped (Moved (burst_front address count buffer (wired pins p)).0) (SpentSeat (burst_front address count buffer (wired pins p)).2.pins) (burst_front address count buffer (wired pins p)).2.part (burst_front address count buffer (wired pins p)).1
+    stepped (Ok (Moved (burst_front address count buffer (wired pins p)).0)) (SpentSeat (burst_front address count buffer (wired pins p)).2.pins) (burst_front address count buffer (wired pins p)).2.part (burst_front address count buffer (wired pins p)).1
 open_step pins p buffer (BurstWrite address bytes) =
-    stepped (Moved (burst_write address bytes.now (wired pins p)).0) (SpentSeat (burst_write address bytes.now (wired pins p)).1.pins) (burst_write address bytes.now (wired pins p)).1.part buffer
+    stepped (Ok (Moved (burst_write address bytes.now (wired pins p)).0)) (SpentSeat (burst_write address bytes.now (wired pins p)).1.pins) (burst_write address bytes.now (wired pins p)).1.part buffer
 
 -- A spent one can only close.
-abbrev pub spent_step : PinRecord → PartState → SessionCall → HostAnswer × Seat × PartState
-spent_step pins p Open = (DoesNotBuild, SpentSeat pins, p)
-spent_step pins p Close = (Done, IdleSeat (closed (wired pins p)).pins, (closed (wired pins p)).part)
-spent_step pins p (Read _) = (DoesNotBuild, SpentSeat pins, p)
-spent_step pins p (Write _ _) = (DoesNotBuild, SpentSeat pins, p)
-spent_step pins p (BurstRead _ _) = (DoesNotBuild, SpentSeat pins, p)
-spent_step pins p (BurstWrite _ _) = (DoesNotBuild, SpentSeat pins, p)
+abbrev pub spent_step : PinRecord → PartState → SessionCall → Answered × Seat × PartState
+spent_step pins p Open = (Ok DoesNotBuild, SpentSeat pins, p)
+spent_step pins p Close = (Ok Done, IdleSeat (closed (wired pins p)).pins, (closed (wired pins p)).part)
+spent_step pins p (Read _) = (Ok DoesNotBuild, SpentSeat pins, p)
+spent_step pins p (Write _ _) = (Ok DoesNotBuild, SpentSeat pins, p)
+spent_step pins p (BurstRead _ _) = (Ok DoesNotBuild, SpentSeat pins, p)
+spent_step pins p (BurstWrite _ _) = (Ok DoesNotBuild, SpentSeat pins, p)
 
-abbrev pub with_buffer : HostAnswer × Seat × PartState → List ℕ → Stepped
+abbrev pub with_buffer : Answered × Seat × PartState → List ℕ → Stepped
 with_buffer r buffer = stepped r.0 r.1 r.2 buffer
 
 abbrev pub session_step : Seat → PartState → List ℕ → SessionCall → Stepped
@@ -109,29 +116,29 @@ pub record HostState : Type 0 where
 abbrev pub host_state : Seat → Seat → PartState → List ℕ → HostState
 host_state first second part buffer = record { first = first; second = second; part = part; buffer = buffer }
 
-abbrev pub first_after : HostState → Stepped → HostAnswer × HostState
+abbrev pub first_after : HostState → Stepped → Answered × HostState
 first_after s r = (r.answer, host_state r.session s.second r.part r.buffer)
 
-abbrev pub second_after : HostState → Stepped → HostAnswer × HostState
+abbrev pub second_after : HostState → Stepped → Answered × HostState
 second_after s r = (r.answer, host_state s.first r.session r.part r.buffer)
 
-abbrev pub wire_after : HostState → WireAnswer × PartState → HostAnswer × HostState
-wire_after s r = (WireSaid r.0, host_state s.first s.second r.1 s.buffer)
+abbrev pub wire_after : HostState → WireAnswered × PartState → Answered × HostState
+wire_after s r = (wire_answered r.0, host_state s.first s.second r.1 s.buffer)
 
 -- One call of a list.
-abbrev pub host_step : HostState → HostCall → HostAnswer × HostState
-host_step s (Wire call) = wire_after s (do_call s.part call)
+abbrev pub host_step : HostState → HostCall → Answered × HostState
+host_step s (Wire call) = wire_after s (wire_one s.part call)
 host_step s (First call) = first_after s (session_step s.first s.part s.buffer call)
 host_step s (Second call) = second_after s (session_step s.second s.part s.buffer call)
 
 -- the same, as a list is worked call by call
-unfoldable pub work_one : HostState → HostCall → HostAnswer × HostState
+unfoldable pub work_one : HostState → HostCall → Answered × HostState
 work_one s call = host_step s call
 
 -- a list of calls, worked one after the other: the answers, and what stands then
-abbrev pub with_answer : HostAnswer → List HostAnswer × HostState → List HostAnswer × HostState
+abbrev pub with_answer : Answered → List Answered × HostState → List Answered × HostState
 with_answer answer r = (answer ∷ r.0, r.1)
 
-unfoldable pub host_run : HostState → List HostCall → List HostAnswer × HostState
+unfoldable pub host_run : HostState → List HostCall → List Answered × HostState
 host_run s [] = ([], s)
 host_run s (call ∷ calls) = with_answer (work_one s call).0 (host_run (work_one s call).1 calls)

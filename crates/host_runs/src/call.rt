@@ -1,8 +1,7 @@
 // The calls of hosts as data, and what they answer.
-use refusals::Refusal;
 use rx5c348a_runs::call::{WireAnswer, WireCall};
 
-#[derive(Clone, Copy)]
+#[derive(Clone, Copy, PartialEq, Eq, Debug)]
 pub enum SessionCall<'a> {
     Open,
     Close,
@@ -13,7 +12,7 @@ pub enum SessionCall<'a> {
     BurstWrite(u32, &'a [u8]),
 }
 
-#[derive(Clone, Copy)]
+#[derive(Clone, Copy, PartialEq, Eq, Debug)]
 pub enum HostCall<'a> {
     // a call on the part itself
     Wire(WireCall),
@@ -22,14 +21,14 @@ pub enum HostCall<'a> {
     Second(SessionCall<'a>),
 }
 
-#[derive(Clone, Copy)]
+// What is answered to a call that no one refused.
+#[derive(Clone, Copy, PartialEq, Eq, Debug)]
 pub enum HostAnswer {
     Wire(WireAnswer),
     Done,
     Byte(u8),
     // the bytes that a burst moved
     Moved(usize),
-    Refused(Refusal),
     // no program makes this call in this state of its session: nothing was done
     DoesNotBuild,
 }

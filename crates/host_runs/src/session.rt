@@ -2,7 +2,7 @@
 ghost use Rattle.std.specs.Prelude.{◌≡◌};
 ghost use Rattle.rx5c348a_whole.specs.Part.{seen};
 ghost use Rattle.host_wires.specs.Record.{wired};
-ghost use Rattle.host_runs.specs.Hosts.{stepped, seat, session_ended, byte_or_refused, done_or_refused, burst_front, idle_step, open_step, spent_step, session_step};
+ghost use Rattle.host_runs.specs.Hosts.{stepped, seat, session_ended, burst_front, idle_step, open_step, spent_step, session_step};
 
 use crate::call::{HostAnswer, SessionCall};
 use host_sessions::idle::IdleSession;
@@ -16,24 +16,6 @@ pub enum HostSession {
     Idle(IdleSession),
     Active(OpenSession),
     Spent(SpentSession),
-}
-
-fn byte_or_refused(answer: Result<u8, Refusal>) -> HostAnswer
-    ensures { result ≡ byte_or_refused answer }
-{
-    match answer {
-        Ok(byte) => HostAnswer::Byte(byte),
-        Err(why) => HostAnswer::Refused(why),
-    }
-}
-
-fn done_or_refused(answer: Result<(), Refusal>) -> HostAnswer
-    ensures { result ≡ done_or_refused answer }
-{
-    match answer {
-        Ok(()) => HostAnswer::Done,
-        Err(why) => HostAnswer::Refused(why),
-    }
 }
 
 // A burst read into the front of a buffer.
@@ -54,12 +36,15 @@ fn step_idle(
     session: IdleSession,
     part: &mut Rx5c348a,
     call: SessionCall<'_>,
-) -> (HostSession, HostAnswer)
+) -> (HostSession, Result<HostAnswer, Refusal>)
     ensures { (result.1, seat result.0, seen part.new) ≡ idle_step session.pins (seen part.old) call.entry }
 {
     match call {
-        SessionCall::Open => (HostSession::Active(session.open(part)), HostAnswer::Done),
-        _ => (HostSession::Idle(session), HostAnswer::DoesNotBuild),
+        SessionCall::Open => (
+            HostSession::Active(session.open(part)),
+            Ok(HostAnswer::Done),
+        ),
+        _ => (HostSession::Idle(session), Ok(HostAnswer::DoesNotBuild)),
     }
 }
 
@@ -68,29 +53,31 @@ fn step_open(
     part: &mut Rx5c348a,
     call: SessionCall<'_>,
     buffer: &mut [u8],
-) -> (HostSession, HostAnswer)
+) -> (HostSession, Result<HostAnswer, Refusal>)
     ensures { stepped result.1 (seat result.0) (seen part.new) buffer.new ≡ open_step session.pins (seen part.old) buffer.old call.entry }
 {
     match call {
-        SessionCall::Open => (HostSession::Active(session), HostAnswer::DoesNotBuild),
-        SessionCall::Close => (HostSession::Idle(session.close(part)), HostAnswer::Done),
+        SessionCall::Open => (HostSession::Active(session), Ok(HostAnswer::DoesNotBuild)),
+        SessionCall::Close => (HostSession::Idle(session.close(part)), Ok(HostAnswer::Done)),
         SessionCall::Read(address) => {
             let mut session = session;
-            let answer = byte_or_refused(session.read(part, address));
+            let answer = session.read(part, address).map(HostAnswer::Byte);
             (HostSession::Active(session), answer)
         }
         SessionCall::Write(address, byte) => {
             let mut session = session;
-            let answer = done_or_refused(session.write(part, address, byte));
+            let answer = session
+                .write(part, address, byte)
+                .map(|()| HostAnswer::Done);
             (HostSession::Active(session), answer)
         }
         SessionCall::BurstRead(address, count) => {
             let (spent, moved) = read_front(session, part, address, count, buffer);
-            (HostSession::Spent(spent), HostAnswer::Moved(moved))
+            (HostSession::Spent(spent), Ok(HostAnswer::Moved(moved)))
         }
         SessionCall::BurstWrite(address, bytes) => {
             let (spent, moved) = session.burst_write(part, address, bytes);
-            (HostSession::Spent(spent), HostAnswer::Moved(moved))
+            (HostSession::Spent(spent), Ok(HostAnswer::Moved(moved)))
         }
     }
 }
@@ -99,12 +86,12 @@ fn step_spent(
     session: SpentSession,
     part: &mut Rx5c348a,
     call: SessionCall<'_>,
-) -> (HostSession, HostAnswer)
+) -> (HostSession, Result<HostAnswer, Refusal>)
     ensures { (result.1, seat result.0, seen part.new) ≡ spent_step session.pins (seen part.old) call.entry }
 {
     match call {
-        SessionCall::Close => (HostSession::Idle(session.close(part)), HostAnswer::Done),
-        _ => (HostSession::Spent(session), HostAnswer::DoesNotBuild),
+        SessionCall::Close => (HostSession::Idle(session.close(part)), Ok(HostAnswer::Done)),
+        _ => (HostSession::Spent(session), Ok(HostAnswer::DoesNotBuild)),
     }
 }
 
@@ -115,7 +102,7 @@ impl HostSession {
         part: &mut Rx5c348a,
         call: SessionCall<'_>,
         buffer: &mut [u8],
-    ) -> (HostSession, HostAnswer)
+    ) -> (HostSession, Result<HostAnswer, Refusal>)
         ensures { stepped result.1 (seat result.0) (seen part.new) buffer.new ≡ session_step (seat self) (seen part.old) buffer.old call.entry }
     {
         match self {

@@ -16,7 +16,8 @@ use Rattle.host_wires.specs.declared.record.PinRecord.{PinRecord}
 use Rattle.host_wires.specs.Record.{Wired, wired}
 use Rattle.host_wires.specs.Shifting.{byte_in, byte_out, bytes_in, bytes_out}
 use Rattle.host_wires.specs.Laws.{ready_in, byte_at, written_in_turn, registers_in_turn}
-use Rattle.host_wires.proofs.Wholes.{halves, header_in, data_in, register_out}
+use Rattle.serial_transfer.proofs.Wholes.{halves}
+use Rattle.host_wires.proofs.Wholes.{header_in, data_in, register_out}
 use Rattle.host_wires.proofs.Turns.{all_arrive, all_stand_there}
 use Rattle.host_sessions.specs.Sessions.{closing, opening, header_for, ended, read_after, reading, write_after, writing, burst_read_after, burst_reading, burst_write_after, burst_writing}
 use Rattle.host_sessions.specs.Laws.{awaiting, Opens, Closes, ReadIsWhatStands, WrittenArrives, BurstIsWhatStands, BurstArrives}

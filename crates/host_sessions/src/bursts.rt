@@ -7,13 +7,15 @@ ghost use Rattle.host_sessions.specs.Sessions.{burst_reading, burst_writing, bur
 ghost use Rattle.host_sessions.specs.Driven.{levels_of_burst_read, levels_of_burst_write, all_driven};
 ghost use Rattle.host_sessions.specs.Laws.{BurstIsWhatStands, BurstArrives};
 
-use crate::header::{BURST_READ, BURST_WRITE, header_for};
-use crate::open::OpenSession;
+use crate::header::header_for;
+use crate::open::Open;
 use crate::promises::{burst_to_arrive, burst_what_stands};
 use crate::rest::Rest;
+use crate::session::Session;
 use crate::spent::SpentSession;
 use host_wires::record::PinRecord;
 use rx5c348a_whole::part::Rx5c348a;
+use serial_transfer::phase::Format;
 
 // A header in, then bytes out until the buffer is full.
 fn shift_registers_out(pins: &mut PinRecord, part: &mut Rx5c348a, header: u8, buffer: &mut [u8])
@@ -40,7 +42,7 @@ pub(crate) fn read_burst(
     ensures { (result, buffer.new, wired pins.new (seen part.new)) ≡ burst_reading address buffer.old (wired pins.old (seen part.old)) }
 {
     let rest = Rest { pins };
-    let Ok(header) = header_for(part, address, BURST_READ) else {
+    let Ok(header) = header_for(part, address, Format::BurstRead) else {
         return 0;
     };
     shift_registers_out(rest.pins, part, header, buffer);
@@ -56,15 +58,16 @@ pub(crate) fn write_burst(
     ensures { (result, wired pins.new (seen part.new)) ≡ burst_writing address bytes.now (wired pins.old (seen part.old)) }
 {
     let rest = Rest { pins };
-    let Ok(header) = header_for(part, address, BURST_WRITE) else {
+    let Ok(header) = header_for(part, address, Format::BurstWrite) else {
         return 0;
     };
     shift_registers_in(rest.pins, part, header, bytes);
     bytes.len()
 }
 
-impl OpenSession {
+impl Session<Open> {
     // Registers in turn from an address on, 0 after 15. Answers how many bytes were moved: the buffer's length, or none.
+    // A refused burst moves none, and spends its session all the same.
     pub fn burst_read(
         self,
         part: &mut Rx5c348a,
@@ -75,9 +78,9 @@ impl OpenSession {
         ensures law { BurstIsWhatStands address buffer.old (seen part.old) result.1 buffer.new (seen part.new) }
         ensures driven { seen part.new ≡ all_driven (levels_of_burst_read address (length buffer.old) (seen part.old)) (seen part.old) }
     {
-        let OpenSession { mut pins } = self;
+        let Session { mut pins, state: _ } = self;
         let moved = burst_what_stands(&mut pins, part, address, buffer);
-        (SpentSession { pins }, moved)
+        (Session::with(pins), moved)
     }
 
     // Bytes to registers in turn from an address on, 0 after 15. Answers how many were moved: all, or none.
@@ -91,8 +94,8 @@ impl OpenSession {
         ensures law { BurstArrives address bytes.now (seen part.old) result.1 (seen part.new) }
         ensures driven { seen part.new ≡ all_driven (levels_of_burst_write address bytes.now (seen part.old)) (seen part.old) }
     {
-        let OpenSession { mut pins } = self;
+        let Session { mut pins, state: _ } = self;
         let moved = burst_to_arrive(&mut pins, part, address, bytes);
-        (SpentSession { pins }, moved)
+        (Session::with(pins), moved)
     }
 }

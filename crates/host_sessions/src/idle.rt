@@ -8,26 +8,25 @@ ghost use Rattle.host_sessions.specs.Laws.{Opens};
 
 use crate::open::OpenSession;
 use crate::promises::open_to_a_header;
+use crate::session::Session;
 use host_wires::record::PinRecord;
 use rx5c348a_whole::part::Rx5c348a;
 
 // No transfer can be made: open first.
-pub struct IdleSession {
-    pub(crate) pins: PinRecord,
-}
+pub struct Idle;
 
-impl IdleSession {
+pub type IdleSession = Session<Idle>;
+
+impl Session<Idle> {
     // A host that drives nothing yet.
     pub fn new() -> IdleSession
         ensures { result.pins ≡ all_low }
     {
-        IdleSession {
-            pins: PinRecord {
-                ce: false,
-                sclk: false,
-                si: false,
-            },
-        }
+        Session::with(PinRecord {
+            ce: false,
+            sclk: false,
+            si: false,
+        })
     }
 
     // SCLK low, CE low, CE high, with SI low: the part then awaits a header, whatever it was doing.
@@ -36,16 +35,16 @@ impl IdleSession {
         ensures law { Opens (seen part.old) (seen part.new) }
         ensures driven { seen part.new ≡ all_driven (levels_of_open (seen part.old)) (seen part.old) }
     {
-        let IdleSession { mut pins } = self;
+        let Session { mut pins, state: _ } = self;
         open_to_a_header(&mut pins, part);
-        OpenSession { pins }
+        Session::with(pins)
     }
 
     // The host is done. Answers the levels that it leaves on the wires.
     pub fn end(self) -> PinRecord
         ensures { result ≡ self.pins }
     {
-        let IdleSession { pins } = self;
+        let Session { pins, state: _ } = self;
         pins
     }
 }

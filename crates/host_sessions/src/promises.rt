@@ -1,4 +1,5 @@
 // What a host can rely on, call by call: the laws stand above what each call drives.
+// They stand apart from the calls, so that no other proof opens what a call does.
 ghost use Rattle.std.specs.Prelude.{◌≡◌, length};
 ghost use Rattle.rx5c348a_whole.specs.Part.{seen};
 ghost use Rattle.host_wires.specs.Record.{wired};

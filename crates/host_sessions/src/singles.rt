@@ -7,13 +7,15 @@ ghost use Rattle.host_sessions.specs.Sessions.{reading, writing, single_read, si
 ghost use Rattle.host_sessions.specs.Driven.{levels_of_read, levels_of_write, all_driven};
 ghost use Rattle.host_sessions.specs.Laws.{ReadIsWhatStands, WrittenArrives};
 
-use crate::header::{SINGLE_READ, SINGLE_WRITE, header_for};
-use crate::open::OpenSession;
+use crate::header::header_for;
+use crate::open::Open;
 use crate::promises::{read_what_stands, write_to_arrive};
 use crate::rest::Rest;
+use crate::session::Session;
 use host_wires::record::PinRecord;
 use refusals::Refusal;
 use rx5c348a_whole::part::Rx5c348a;
+use serial_transfer::phase::Format;
 
 // A header in, then a byte out.
 fn shift_register_out(pins: &mut PinRecord, part: &mut Rx5c348a, header: u8) -> u8
@@ -39,7 +41,7 @@ pub(crate) fn read_single(
     ensures { (result, wired pins.new (seen part.new)) ≡ reading address (wired pins.old (seen part.old)) }
 {
     let rest = Rest { pins };
-    let header = header_for(part, address, SINGLE_READ)?;
+    let header = header_for(part, address, Format::SingleRead)?;
     Ok(shift_register_out(rest.pins, part, header))
 }
 
@@ -52,12 +54,12 @@ pub(crate) fn write_single(
     ensures { (result, wired pins.new (seen part.new)) ≡ writing address byte (wired pins.old (seen part.old)) }
 {
     let rest = Rest { pins };
-    let header = header_for(part, address, SINGLE_WRITE)?;
+    let header = header_for(part, address, Format::SingleWrite)?;
     shift_register_in(rest.pins, part, header, byte);
     Ok(())
 }
 
-impl OpenSession {
+impl Session<Open> {
     // The byte of a register.
     pub fn read(&mut self, part: &mut Rx5c348a, address: u32) -> Result<u8, Refusal>
         ensures value { (result, wired self.new.pins (seen part.new)) ≡ single_read address (wired self.old.pins (seen part.old)) }

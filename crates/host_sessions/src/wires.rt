@@ -1,4 +1,6 @@
 // The levels that begin and end a session: SI stays low, and the pin record follows each.
+// A session keeps no part, which others may drive between its calls: the part is passed at each.
+// A pair of both borrows would have to be named again in every contract.
 ghost use Rattle.std.specs.Prelude.{◌≡◌};
 ghost use Rattle.rx5c348a_whole.specs.Part.{seen};
 ghost use Rattle.host_wires.specs.Record.{wired};
@@ -7,17 +9,18 @@ ghost use Rattle.host_sessions.specs.Sessions.{at_levels, opening, closing};
 use host_wires::record::PinRecord;
 use rx5c348a_whole::part::Rx5c348a;
 
-// Drives CE and SCLK, with SI low.
+// Drives CE and SCLK, with SI low. At most one of the two changes, so it is never refused.
 fn drive(pins: &mut PinRecord, part: &mut Rx5c348a, ce: bool, sclk: bool)
     ensures { wired pins.new (seen part.new) ≡ at_levels (wired pins.old (seen part.old)) ce sclk }
 {
-    *pins = PinRecord {
-        ce,
-        sclk,
-        si: false,
-    };
-    // one of the two changes at most, so it is never refused
-    let _ = part.pins(pins.levels());
+    pins.drive(
+        part,
+        PinRecord {
+            ce,
+            sclk,
+            si: false,
+        },
+    );
 }
 
 // SCLK low with CE as it stands, then CE low.

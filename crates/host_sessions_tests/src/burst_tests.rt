@@ -1,6 +1,7 @@
 // Bursts: empty ones, and ones that come round from Fh to 0.
 use crate::host::*;
 use host_sessions::idle::IdleSession;
+use rx5c348a_whole::pins::{CE, SCLK};
 use serial_transfer::phase::SerialOut;
 use std::test::Fail;
 
@@ -54,8 +55,8 @@ fn reads_come_round(rt: HostRuntime) -> Result<(), Fail> {
     for address in 0..16u32 {
         let mut buffer = [0xFFu8; 40];
         assert_eq!(rt; read_burst(&mut part, address, &mut buffer), 40);
-        for i in 0..40usize {
-            assert_eq!(rt; buffer[i], registers[(address as usize + i) % 16]);
+        for (i, byte) in buffer.iter().enumerate() {
+            assert_eq!(rt; *byte, registers[(address as usize + i) % 16]);
         }
     }
     assert_eq!(rt; look(&part)?, registers);

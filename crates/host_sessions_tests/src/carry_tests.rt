@@ -16,19 +16,14 @@ fn registers_after(pulses: u64) -> [u8; 16] {
 
 // Reads register after register, with a pulse after each.
 fn read_slowly(part: &mut Rx5c348a) -> Result<[u8; 16], Refusal> {
-    let mut registers = [0u8; 16];
-    let mut answer = Ok(());
-    let mut session = IdleSession::new().open(part);
-    for address in 0..16u32 {
-        match session.read(part, address) {
-            Ok(byte) => registers[address as usize] = byte,
-            Err(why) => answer = Err(why),
+    in_session(part, |session, part| {
+        let mut registers = [0u8; 16];
+        for (address, register) in (0u32..).zip(registers.iter_mut()) {
+            *register = session.read(part, address)?;
+            part.pulses(1)?;
         }
-        let _ = part.pulses(1);
-    }
-    session.close(part).end();
-    answer?;
-    Ok(registers)
+        Ok(registers)
+    })
 }
 
 // The carry is there or not as the session opens.

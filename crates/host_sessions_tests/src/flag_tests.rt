@@ -3,6 +3,7 @@ use crate::host::*;
 use host_sessions::idle::IdleSession;
 use refusals::Refusal;
 use rx5c348a_whole::part::Rx5c348a;
+use rx5c348a_whole::pins::CE;
 use std::test::Fail;
 
 const SCRATCH1: u8 = 0x20;
@@ -21,33 +22,28 @@ fn ringing_part() -> Result<Rx5c348a, Fail> {
 
 // Sets and clears bits of Fh; answers Fh before and after.
 fn change_flags(part: &mut Rx5c348a, set: u8, cleared: u8) -> Result<(u8, u8), Refusal> {
-    let mut session = IdleSession::new().open(part);
-    let before = session.read(part, FLAGS);
-    let written = match before {
-        Ok(flags) => session.write(part, FLAGS, (flags | set) & !cleared),
-        Err(why) => Err(why),
-    };
-    let after = session.read(part, FLAGS);
-    session.close(part).end();
-    written?;
-    Ok((before?, after?))
+    in_session(part, |session, part| {
+        let before = session.read(part, FLAGS)?;
+        session.write(part, FLAGS, (before | set) & !cleared)?;
+        Ok((before, session.read(part, FLAGS)?))
+    })
 }
 
 #[test]
 fn flags_change_in_one_session(rt: HostRuntime) -> Result<(), Fail> {
     let mut part = ringing_part()?;
-    assert_eq!(rt; part.answer().intr.number(), 0);
+    assert_eq!(rt; u8::from(part.answer().intr), 0);
     // a flag that is written back as 1 stays
     assert_eq!(rt;
         change_flags(&mut part, SCRATCH1, 0)?,
         (WAFG, WAFG | SCRATCH1)
     );
-    assert_eq!(rt; part.answer().intr.number(), 0);
+    assert_eq!(rt; u8::from(part.answer().intr), 0);
     assert_eq!(rt;
         change_flags(&mut part, 0, WAFG)?,
         (WAFG | SCRATCH1, SCRATCH1)
     );
-    assert_eq!(rt; part.answer().intr.number(), 1);
+    assert_eq!(rt; u8::from(part.answer().intr), 1);
     // and cannot be set by writing
     assert_eq!(rt; change_flags(&mut part, WAFG, SCRATCH1)?, (SCRATCH1, 0));
     Ok(())

@@ -1,7 +1,12 @@
 // A host with a session for each call, and parts for it.
+use clock_core::cells::Registers;
+use clock_core::setting::Setting;
 use host_sessions::idle::IdleSession;
+use host_sessions::open::OpenSession;
 use refusals::Refusal;
 use rx5c348a_whole::part::Rx5c348a;
+use rx5c348a_whole::pins::{CE, SCLK};
+use serial_transfer::bits::bit_of;
 use std::test::Fail;
 
 pub(crate) const SECOND: u64 = 32_768;
@@ -18,15 +23,15 @@ pub(crate) const CONTROL: u32 = 0xE;
 
 pub(crate) const FLAGS: u32 = 0xF;
 
-// Levels as a part takes them.
-pub(crate) const CE: u64 = 4;
-
-pub(crate) const SCLK: u64 = 2;
-
 // A part at a time of that day, in seconds since midnight, in 24-hour mode.
 pub(crate) fn part_at(time: u32) -> Result<Rx5c348a, Fail> {
     let mut part = Rx5c348a::power_on();
-    part.load(MIDNIGHT + u64::from(time % 86_400), FRIDAY, 0, 1)?;
+    part.load(Setting {
+        moment: MIDNIGHT + u64::from(time % 86_400),
+        weekday: FRIDAY,
+        trim: 0,
+        mode: 1,
+    })?;
     Ok(part)
 }
 
@@ -37,18 +42,25 @@ pub(crate) fn on_friday(time: [u8; 3]) -> [u8; 16] {
     [a, b, c, d, e, f, g, h, i, j, k, l, m, n, o, p]
 }
 
-pub(crate) fn read_one(part: &mut Rx5c348a, address: u32) -> Result<u8, Refusal> {
+// Single transfers of one session.
+pub(crate) fn in_session<R, F: FnOnce(&mut OpenSession, &mut Rx5c348a) -> R>(
+    part: &mut Rx5c348a,
+    transfer: F,
+) -> R
+    requires { F.IsAlwaysCallable transfer }
+{
     let mut session = IdleSession::new().open(part);
-    let byte = session.read(part, address);
+    let answer = transfer(&mut session, part);
     session.close(part).end();
-    byte
+    answer
+}
+
+pub(crate) fn read_one(part: &mut Rx5c348a, address: u32) -> Result<u8, Refusal> {
+    in_session(part, |session, part| session.read(part, address))
 }
 
 pub(crate) fn write_one(part: &mut Rx5c348a, address: u32, byte: u8) -> Result<(), Refusal> {
-    let mut session = IdleSession::new().open(part);
-    let written = session.write(part, address, byte);
-    session.close(part).end();
-    written
+    in_session(part, |session, part| session.write(part, address, byte))
 }
 
 pub(crate) fn read_burst(part: &mut Rx5c348a, address: u32, buffer: &mut [u8]) -> usize {
@@ -69,9 +81,9 @@ pub(crate) fn write_burst(part: &mut Rx5c348a, address: u32, bytes: &[u8]) -> us
 
 // The highest `count` bits of a byte on SI, past any session.
 pub(crate) fn clock_bits(part: &mut Rx5c348a, byte: u8, count: u8) -> Result<(), Refusal> {
-    for place in 0..8u8 {
-        if place < count {
-            let si = u64::from((byte >> (7 - place)) & 1);
+    for place in (0..8u8).rev() {
+        if 8 - place <= count {
+            let si = u64::from(bit_of(byte, place));
             part.pins(CE + SCLK + si)?;
             part.pins(CE + si)?;
         }
@@ -90,7 +102,7 @@ pub(crate) fn all_of(part: &Rx5c348a) -> Result<([u8; 16], u32, bool, bool, bool
     Ok((
         look(part)?,
         part.registers.core.position,
-        part.registers.core.boundary_waits,
+        part.registers.core.boundary_waits(),
         part.ce,
         part.sclk,
     ))
@@ -98,16 +110,10 @@ pub(crate) fn all_of(part: &Rx5c348a) -> Result<([u8; 16], u32, bool, bool, bool
 
 // The number of a refusal, or 0.
 pub(crate) fn refused_with(answer: Result<(), Refusal>) -> u8 {
-    match answer {
-        Ok(()) => 0,
-        Err(why) => why.number(),
-    }
+    answer.err().map_or(0, u8::from)
 }
 
 // The byte that is read, or a refusal's number.
 pub(crate) fn byte_or_number(answer: Result<u8, Refusal>) -> Result<u8, u8> {
-    match answer {
-        Ok(byte) => Ok(byte),
-        Err(why) => Err(why.number()),
-    }
+    answer.map_err(u8::from)
 }

@@ -2,6 +2,7 @@
 use crate::host::*;
 use host_sessions::idle::IdleSession;
 use rx5c348a_whole::part::Rx5c348a;
+use rx5c348a_whole::pins::{CE, SCLK};
 use std::process::Abort;
 use std::test::Fail;
 

@@ -4,6 +4,7 @@ use host_sessions::idle::IdleSession;
 use host_sessions::open::OpenSession;
 use refusals::Refusal;
 use rx5c348a_whole::part::Rx5c348a;
+use rx5c348a_whole::pins::CE;
 use std::test::Fail;
 
 // Refusals keep a session open, and leave its record and the part alone.

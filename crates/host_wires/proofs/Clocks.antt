@@ -21,23 +21,25 @@ unfolding bits_in low_levels
 in_done byte zero w h = refl
 in_done byte (suc n) w h = absurd (omega arith)
 
+-- what so many bits more make of those that are in, and both ends then
+unfoldable pub spelt_on : (left gathered : ℕ) → Wired → ℕ × Wired
+spelt_on left gathered w = (spelt gathered (levels_out left w).0, (levels_out left w).1)
+
 -- one bit more is out
-pub out_more : (left g h : ℕ) (v w : Wired) (out : SerialOut) → 0 < left → ◌≡◌ {A = SerialOut × Wired} (out, w) (bit_out v) → h ≡ taken g (out_number out) → ◌≡◌ {A = ℕ × Wired} (spelt h (levels_out (left - 1) w).0, (levels_out (left - 1) w).1) (spelt g (levels_out left v).0, (levels_out left v).1)
-unfolding levels_out spelt
-out_more zero g h v w out pos e t = absurd (omega arith)
-out_more (suc n) g h v w out pos e t =
-    let less : suc n - 1 ≡ n = omega arith in
+pub out_more : (less left g h : ℕ) (v w : Wired) (out : SerialOut) → suc less ≡ left → ◌≡◌ {A = SerialOut × Wired} (out, w) (bit_out v) → h ≡ taken g (out_number out) → spelt_on less h w ≡ spelt_on left g v
+unfolding spelt_on levels_out spelt
+out_more less left g h v w out n e t =
     let level : out ≡ (bit_out v).0 = ap (λ (s : SerialOut × Wired). s.0) e in
-    let rest : levels_out (suc n - 1) w ≡ levels_out n (bit_out v).1 =
-    ap (λ (k : ℕ). levels_out k w) less ∙ ap (λ (s : SerialOut × Wired). levels_out n s.1) e in
+    let wires : w ≡ (bit_out v).1 = ap (λ (s : SerialOut × Wired). s.1) e in
     let front : h ≡ taken g (out_number (bit_out v).0) = t ∙ ap (λ (o : SerialOut). taken g (out_number o)) level in
-    ap₂ (λ (k : ℕ) (s : List SerialOut × Wired). (spelt k s.0, s.1)) front rest
+    ap₂ (spelt_on less) front wires ∙ ap (λ (k : ℕ). spelt_on k g v) n
 
 -- all bits are out
-pub out_done : (left g : ℕ) (w : Wired) → left ≤ 0 → ◌≡◌ {A = ℕ × Wired} (g, w) (spelt g (levels_out left w).0, (levels_out left w).1)
-unfolding levels_out spelt
-out_done zero g w h = refl
-out_done (suc n) g w h = absurd (omega arith)
+pub out_done : (out g : ℕ) (v w : Wired) → 8 ≤ out → spelt_on (8 - out) g v ≡ spelt_on 8 0 w → ◌≡◌ {A = ℕ × Wired} (g, v) (byte_out w)
+unfolding spelt_on levels_out spelt
+out_done out g v w all e =
+    let none : 0 ≡ 8 - out = omega arith in
+    ap (λ (k : ℕ). spelt_on k g v) none ∙ e
 
 -- bytes one after another, one more at the end
 pub bytes_push : (bytes : List ℕ) (byte : ℕ) (w : Wired) → bytes_in (bytes ++ byte ∷ []) w ≡ byte_in byte (bytes_in bytes w)

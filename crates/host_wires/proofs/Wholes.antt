@@ -1,14 +1,14 @@
 -- Eight clocks make a byte, at the wires of a part.
-use Rattle.std.proofs.Common.{◌≡◌, ℕ, zero, suc, ◌+◌, ◌*◌, ◌/◌, ◌%◌, ◌^◌, ◌<◌, Bool, true, false, eqb, List, [], ◌∷◌, map, length, get_or, Option, sym, refl, ap, ◌∙◌, subst, ap₂, div-one, arith}
-use Rattle.std.proofs.lemmas.Nat.{div-mul-add, mod-mul-add}
+use Rattle.std.proofs.Common.{◌≡◌, ℕ, zero, suc, ◌/◌, ◌%◌, ◌^◌, ◌<◌, Bool, true, false, eqb, List, [], ◌∷◌, map, length, get_or, Option, sym, refl, ap, ◌∙◌, subst, ap₂, div-one, arith}
 use Rattle.serial_transfer.specs.declared.phase.SerialOut.{SerialOut}
 use Rattle.serial_transfer.specs.declared.phase.Landing.{Landing}
 use Rattle.serial_transfer.specs.declared.phase.Phase.{Phase}
 use Rattle.serial_transfer.specs.declared.phase.Phase.TheVariants.{Header, Write, Read, Deaf}
-use Rattle.serial_transfer.specs.Levels.{taken, bit_at, out_number, level_out}
-use Rattle.serial_transfer.specs.Rules.{fresh_header, format_coded, data_at, headed, after_write, after_read, header_taken, write_taken}
+use Rattle.serial_transfer.specs.Levels.{taken, bit_at, level_out}
+use Rattle.serial_transfer.specs.Rules.{fresh_header, headed, after_write, after_read, header_taken, write_taken}
 use Rattle.serial_transfer.specs.Bytes.{low_bits, bits_of, spelt}
 use Rattle.serial_transfer.proofs.Shifts.{taken_more}
+use Rattle.serial_transfer.proofs.Wholes.{halves, bits_spelt}
 use Rattle.rx5c_registers.specs.File.{FileState, registers, written}
 use Rattle.rx5c_registers.specs.Standing.{StandsIn}
 use Rattle.rx5c_registers.proofs.Standing.{written_stands}
@@ -49,14 +49,6 @@ gathers_all : (byte : ℕ) → byte < 256 → gather 0 byte 8 ≡ byte
 gathers_all byte h =
     let none : 0 ≡ byte / 2 ^ 8 = omega arith in
     ap (λ (g : ℕ). gather g byte 8) none ∙ gathers byte 8 h
-
--- a header that is given as its two halves
-pub halves : (byte address format : ℕ) → format < 16 → byte ≡ 16 * address + format → headed byte ≡ data_at address (format_coded format)
-halves byte address format h e =
-    let split : byte ≡ address * 16 + format = omega arith in
-    let high : byte / 16 ≡ address = ap (λ (n : ℕ). n / 16) split ∙ div-mul-add address 16 format h in
-    let low : byte % 16 ≡ format = ap (λ (n : ℕ). n % 16) split ∙ mod-mul-add address 16 format h in
-    ap (λ (a : ℕ). data_at a (format_coded (byte % 16))) high ∙ ap (λ (n : ℕ). data_at address (format_coded n)) low
 
 -- the registers and the phase once a byte may have landed
 abbrev landed_in : FileState → Option Landing × Phase → PartState
@@ -160,23 +152,6 @@ data_out : (f : FileState) (address : ℕ) (burst : Bool) (old : ℕ) (out : Ser
 unfolding levels_out low_bits pins_part
 data_out f address burst old out pins = refl
 
--- a bit on SO reads as that bit
-out_level : (n : ℕ) → out_number (level_out (n % 2)) ≡ n % 2
-out_level n = at (n % 2) (omega arith)
-  where
-    at : (b : ℕ) → b < 2 → out_number (level_out b) ≡ b
-    at zero h = refl
-    at (suc zero) h = refl
-    at (suc (suc b)) h = absurd (omega arith)
-
--- levels on SO spell what their bits gather
-spells : (gathered byte n : ℕ) → spelt gathered (map level_out (low_bits byte n)) ≡ gather gathered byte n
-unfolding spelt low_bits gather
-spells gathered byte zero = refl
-spells gathered byte (suc n) =
-    ap (λ (bit : ℕ). spelt (taken gathered bit) (map level_out (low_bits byte n))) (out_level (byte / 2 ^ n) ∙ sym (number_bit byte n))
-    ∙ spells (taken gathered (number (bit_set byte n))) byte n
-
 -- the eight bits of a number are those of its lowest byte
 low_eight : (n : ℕ) → bits_of n ≡ bits_of (n % 256)
 unfolding low_bits
@@ -193,7 +168,7 @@ low_eight n =
 
 byte_spelt : (n : ℕ) → spelt 0 (map level_out (bits_of n)) ≡ n % 256
 byte_spelt n =
-    ap (λ (bits : List ℕ). spelt 0 (map level_out bits)) (low_eight n) ∙ spells 0 (n % 256) 8 ∙ gathers_all (n % 256) (omega arith)
+    ap (λ (bits : List ℕ). spelt 0 (map level_out bits)) (low_eight n) ∙ bits_spelt (n % 256) (omega arith)
 
 lowest_bit : (n : ℕ) → bit_at n 0 ≡ bit_at (n % 256) 0
 lowest_bit n = omega arith

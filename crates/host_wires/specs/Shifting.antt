@@ -7,6 +7,7 @@ use Rattle.serial_transfer.specs.Levels.{bit_at}
 use Rattle.serial_transfer.specs.Bytes.{spelt}
 use Rattle.rx5c348a_whole.specs.declared.pins.PinAnswer.{PinAnswer}
 use Rattle.rx5c348a_whole.specs.Pins.{pins_part}
+use Rattle.host_wires.specs.declared.record.PinRecord.{PinRecord}
 use Rattle.host_wires.specs.Record.{levels, pin_record, Wired, wired}
 
 -- SO as it is answered; a refused call leaves the host with nothing on it
@@ -14,10 +15,13 @@ abbrev pub so_heard : Result PinAnswer Refusal → SerialOut
 so_heard (Ok answer) = answer.so
 so_heard (Err _) = Off
 
--- levels driven with CE high: what the host hears on SO, and both ends then
+-- levels driven: what the host hears on SO, and both ends then
+abbrev pub driven_to : Wired → PinRecord → SerialOut × Wired
+driven_to w to = (so_heard (pins_part w.part (levels to)).0, wired to (pins_part w.part (levels to)).1)
+
+-- the same with CE high
 abbrev pub driven : Wired → Bool → Bool → SerialOut × Wired
-driven w sclk si =
-    (so_heard (pins_part w.part (levels (pin_record true sclk si))).0, wired (pin_record true sclk si) (pins_part w.part (levels (pin_record true sclk si))).1)
+driven w sclk si = driven_to w (pin_record true sclk si)
 
 -- One bit on SI.
 abbrev pub bit_in : Wired → Bool → Wired

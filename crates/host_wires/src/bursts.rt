@@ -24,8 +24,8 @@ impl PinRecord {
         ensures value { (buffer.new, wired self.new (seen part.new)) ≡ bytes_out (length buffer.old) (wired self.old (seen part.old)) }
         ensures law { AllStandThere (length buffer.old) (seen part.old) buffer.new (seen part.new) }
     {
-        for i in 0..buffer.len() {
-            buffer[i] = self.shift_out(part);
+        for byte in buffer.iter_mut() {
+            *byte = self.shift_out(part);
         }
     }
 }

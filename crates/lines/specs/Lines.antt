@@ -1,15 +1,10 @@
 -- The bench's two lines, byte for byte, and what a line call leaves in its buffer.
-use Rattle.std.specs.Prelude.{ℕ, cond, List, ◌++◌, length, take, drop, Ok, Err, codes, decimal, Result, nat_lt}
+use Rattle.std.specs.Prelude.{ℕ, cond, List, ◌++◌, length, drop, Ok, Err, codes, decimal, Result, nat_lt}
 use Rattle.std.specs.List.{flat_map}
 use Rattle.refusals.specs.declared.Refusal.{Refusal}
 use Rattle.refusals.specs.declared.Refusal.TheVariants.{ShortBuffer}
 use Rattle.lines.specs.Words.{origin_word, hex_byte}
-use Rattle.lines.specs.declared.line.Line.{Line}
 use Rattle.lines.specs.declared.origin.Origin.{Origin}
-
--- what is written of a line under way
-abbrev pub text : Line → List ℕ
-text l = take l.end l.bytes
 
 -- a print record's line: its number, a space, two digits for each register and a line feed
 abbrev pub record_text : ℕ → List ℕ → List ℕ

@@ -1,6 +1,8 @@
 // Who refused a record.
-ghost use Rattle.std.specs.Prelude.{◌≡◌};
+ghost use Rattle.std.specs.Prelude.{◌≡◌, Some};
 ghost use Rattle.lines.specs.Words.{origin_word};
+
+use std::fmt;
 
 #[derive(Clone, Copy, PartialEq, Eq, Debug)]
 pub enum Origin {
@@ -12,12 +14,20 @@ pub enum Origin {
 
 impl Origin {
     // The word that a fault line ends with.
-    pub fn word(self) -> &'static [u8]
+    pub fn word(self) -> &'static str
         ensures { result.now ≡ origin_word self }
     {
         match self {
-            Origin::Tape => b"tape",
-            Origin::Part => b"part",
+            Origin::Tape => "tape",
+            Origin::Part => "part",
         }
+    }
+}
+
+impl fmt::Display for Origin {
+    ghost output = { λ origin. Some (origin_word origin) };
+
+    fn fmt<W: fmt::Write>(&self, f: &mut fmt::Formatter<W>) -> fmt::Result {
+        f.pad(self.word())
     }
 }

@@ -1,8 +1,10 @@
 // The byte map, cell by cell.
+use crate::shown_at::at;
+use crate::still::stands_still;
+use byte_map::cells::ByteCells;
 use byte_map::map::ByteMap;
 use register_map::hour_mode::HourMode;
 use register_map::map::RegisterMap;
-use std::process::Abort;
 
 // The hours cell of each hour in 12-hour mode.
 const TWELVE_HOUR_CELLS: [u8; 24] = [
@@ -14,11 +16,11 @@ const TWELVE_HOUR_CELLS: [u8; 24] = [
 fn hours_in_both_modes(rt: HostRuntime) {
     for hour in 0..24u8 {
         let mut map = ByteMap::fresh();
-        map.show(3600 * hour as u64, 0);
+        map.show(at(3600 * hour as u64, 0));
         assert!(rt; map.read(2) == TWELVE_HOUR_CELLS[hour as usize]);
-        assert!(rt; map.shown() == Some((3600 * hour as u64, 0)));
+        assert!(rt; map.shown() == Some(at(3600 * hour as u64, 0)));
         map.set_hour_mode(HourMode::TwentyFour);
-        map.show(3600 * hour as u64, 0);
+        map.show(at(3600 * hour as u64, 0));
         assert!(rt; map.read(2) == 16 * (hour / 10) + hour % 10);
     }
 }
@@ -58,11 +60,13 @@ const NEXT_DATES: [[u8; 6]; 25] = [
 fn midnight_brings_the_next_date(rt: HostRuntime) {
     for [day, month, year, next_day, next_month, next_year] in NEXT_DATES {
         let mut map = ByteMap {
-            cells: [0x59, 0x59, 0x23, 6, day, month, year],
+            cells: ByteCells {
+                bytes: [0x59, 0x59, 0x23, 6, day, month, year],
+            },
             mode: HourMode::TwentyFour,
         };
         map.advance();
-        assert!(rt; map.cells == [0, 0, 0, 0, next_day, next_month, next_year]);
+        assert!(rt; map.cells.bytes == [0, 0, 0, 0, next_day, next_month, next_year]);
     }
 }
 
@@ -91,12 +95,14 @@ fn a_second_carries(rt: HostRuntime) {
         next_weekday,
     ] in NEXT_TIMES {
         let mut map = ByteMap {
-            cells: [second, minute, hour, weekday, 0x01, 0x01, 0x00],
+            cells: ByteCells {
+                bytes: [second, minute, hour, weekday, 0x01, 0x01, 0x00],
+            },
             mode: HourMode::Twelve,
         };
         map.advance();
         assert!(rt;
-            map.cells
+            map.cells.bytes
                 == [
                     next_second,
                     next_minute,
@@ -132,20 +138,14 @@ const NO_CODE_IN_24_HOURS: [[u8; 7]; 16] = [
 
 const NO_HOUR_OF_12: [u8; 6] = [0x00, 0x20, 0x13, 0x33, 0x0A, 0x2F];
 
-fn stands_still(rt: &impl Abort, cells: [u8; 7], mode: HourMode) {
-    let mut map = ByteMap { cells, mode };
-    assert!(rt; map.shown() == None);
-    map.advance();
-    assert!(rt; map.cells == cells);
-}
-
 #[test]
 fn no_code_shows_none(rt: HostRuntime) {
     for cells in NO_CODE_IN_24_HOURS {
-        stands_still(&rt, cells, HourMode::TwentyFour);
+        stands_still(&rt, ByteCells { bytes: cells }, HourMode::TwentyFour);
     }
     for hours in NO_HOUR_OF_12 {
-        stands_still(&rt, [0, 0, hours, 0, 0x01, 0x01, 0x00], HourMode::Twelve);
+        let bytes = [0, 0, hours, 0, 0x01, 0x01, 0x00];
+        stands_still(&rt, ByteCells { bytes }, HourMode::Twelve);
     }
     assert!(rt; ByteMap::fresh().shown() == None);
 }
@@ -154,12 +154,12 @@ fn no_code_shows_none(rt: HostRuntime) {
 fn figures(rt: HostRuntime) {
     let mut map = ByteMap::fresh();
     map.set_hour_mode(HourMode::TwentyFour);
-    map.show(3_155_760_000, 6);
-    assert!(rt; map.cells == [0x00, 0x00, 0x00, 0x06, 0x01, 0x81, 0x00]);
-    map.show(6_311_519_999, 6);
-    assert!(rt; map.cells == [0x59, 0x59, 0x23, 0x06, 0x31, 0x92, 0x99]);
+    map.show(at(3_155_760_000, 6));
+    assert!(rt; map.cells.bytes == [0x00, 0x00, 0x00, 0x06, 0x01, 0x81, 0x00]);
+    map.show(at(6_311_519_999, 6));
+    assert!(rt; map.cells.bytes == [0x59, 0x59, 0x23, 0x06, 0x31, 0x92, 0x99]);
     map.advance();
-    assert!(rt; map.shown() == Some((0, 0)));
+    assert!(rt; map.shown() == Some(at(0, 0)));
 }
 
 #[test]
@@ -168,18 +168,18 @@ fn put_clears_unused_bits(rt: HostRuntime) {
     for cell in 0..7 {
         map.put(cell, 0xFF);
     }
-    assert!(rt; map.cells == [0x7F, 0x7F, 0x3F, 0x07, 0x3F, 0x9F, 0xFF]);
+    assert!(rt; map.cells.bytes == [0x7F, 0x7F, 0x3F, 0x07, 0x3F, 0x9F, 0xFF]);
 }
 
 #[test]
 fn a_change_of_mode_keeps_the_cells(rt: HostRuntime) {
     let cells = [0x00, 0x00, 0x21, 0, 0x01, 0x01, 0x00];
     let mut map = ByteMap {
-        cells,
+        cells: ByteCells { bytes: cells },
         mode: HourMode::TwentyFour,
     };
-    assert!(rt; map.shown() == Some((21 * 3600, 0)));
+    assert!(rt; map.shown() == Some(at(21 * 3600, 0)));
     map.set_hour_mode(HourMode::Twelve);
-    assert!(rt; map.cells == cells);
-    assert!(rt; map.shown() == Some((13 * 3600, 0)));
+    assert!(rt; map.cells.bytes == cells);
+    assert!(rt; map.shown() == Some(at(13 * 3600, 0)));
 }

@@ -11,9 +11,7 @@ fn every_day_follows_the_one_before(rt: HostRuntime) {
     let mut date = Date::from_day(0);
     for day in 0..DAYS {
         let direct = Date::from_day(day);
-        assert!(rt;
-            date.year == direct.year && date.month == direct.month && date.day == direct.day
-        );
+        assert!(rt; date == direct);
         assert!(rt; date.day_number() == day);
         assert!(rt; date.year < YEARS);
         date = date.next(YEARS);

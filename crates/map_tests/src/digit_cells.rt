@@ -1,8 +1,10 @@
 // The digit map, cell by cell.
+use crate::shown_at::at;
+use crate::still::stands_still;
+use digit_map::cells::DigitCells;
 use digit_map::map::DigitMap;
 use register_map::hour_mode::HourMode;
 use register_map::map::RegisterMap;
-use std::process::Abort;
 
 // The units and tens of each hour in 12-hour mode.
 const TWELVE_HOUR_DIGITS: [[u8; 2]; 24] = [
@@ -37,11 +39,11 @@ fn hours_in_both_modes(rt: HostRuntime) {
     for hour in 0..24u8 {
         let mut map = DigitMap::fresh();
         let [units, tens] = TWELVE_HOUR_DIGITS[hour as usize];
-        map.show(3600 * hour as u64, 0);
+        map.show(at(3600 * hour as u64, 0));
         assert!(rt; map.read(4) == units && map.read(5) == tens);
-        assert!(rt; map.shown() == Some((3600 * hour as u64, 0)));
+        assert!(rt; map.shown() == Some(at(3600 * hour as u64, 0)));
         map.set_hour_mode(HourMode::TwentyFour);
-        map.show(3600 * hour as u64, 0);
+        map.show(at(3600 * hour as u64, 0));
         assert!(rt; map.read(4) == hour % 10 && map.read(5) == hour / 10);
     }
 }
@@ -75,12 +77,14 @@ fn midnight_brings_the_next_date(rt: HostRuntime) {
         next_yy,
     ] in NEXT_DATES {
         let mut map = DigitMap {
-            cells: [9, 5, 9, 5, 3, 2, d, dd, m, mm, y, yy, 6],
+            cells: DigitCells {
+                digits: [9, 5, 9, 5, 3, 2, d, dd, m, mm, y, yy, 6],
+            },
             mode: HourMode::TwentyFour,
         };
         map.advance();
         assert!(rt;
-            map.cells
+            map.cells.digits
                 == [
                     0, 0, 0, 0, 0, 0, next_d, next_dd, next_m, next_mm, next_y, next_yy, 0,
                 ]
@@ -105,24 +109,14 @@ const NO_CODE_IN_24_HOURS: [[u8; 13]; 10] = [
 // Units and tens that are no hour in 12-hour mode.
 const NO_HOUR_OF_12: [[u8; 2]; 6] = [[0, 0], [0, 4], [3, 1], [3, 5], [10, 0], [2, 3]];
 
-fn stands_still(rt: &impl Abort, cells: [u8; 13], mode: HourMode) {
-    let mut map = DigitMap { cells, mode };
-    assert!(rt; map.shown() == None);
-    map.advance();
-    assert!(rt; map.cells == cells);
-}
-
 #[test]
 fn no_code_shows_none(rt: HostRuntime) {
     for cells in NO_CODE_IN_24_HOURS {
-        stands_still(&rt, cells, HourMode::TwentyFour);
+        stands_still(&rt, DigitCells { digits: cells }, HourMode::TwentyFour);
     }
     for [units, tens] in NO_HOUR_OF_12 {
-        stands_still(
-            &rt,
-            [0, 0, 0, 0, units, tens, 1, 0, 1, 0, 0, 0, 0],
-            HourMode::Twelve,
-        );
+        let digits = [0, 0, 0, 0, units, tens, 1, 0, 1, 0, 0, 0, 0];
+        stands_still(&rt, DigitCells { digits }, HourMode::Twelve);
     }
     assert!(rt; DigitMap::fresh().shown() == None);
 }
@@ -133,19 +127,19 @@ fn put_clears_unused_bits(rt: HostRuntime) {
     for cell in 0..13 {
         map.put(cell, 0xFF);
     }
-    assert!(rt; map.cells == [0xF, 7, 0xF, 7, 0xF, 7, 0xF, 3, 0xF, 1, 0xF, 0xF, 7]);
+    assert!(rt; map.cells.digits == [0xF, 7, 0xF, 7, 0xF, 7, 0xF, 3, 0xF, 1, 0xF, 0xF, 7]);
 }
 
 #[test]
 fn a_change_of_mode_keeps_the_cells(rt: HostRuntime) {
     let cells = [0, 0, 0, 0, 1, 1, 1, 0, 1, 0, 0, 0, 0];
     let mut map = DigitMap {
-        cells,
+        cells: DigitCells { digits: cells },
         mode: HourMode::TwentyFour,
     };
-    assert!(rt; map.shown() == Some((11 * 3600, 0)));
-    map.show(23 * 3600, 0);
+    assert!(rt; map.shown() == Some(at(11 * 3600, 0)));
+    map.show(at(23 * 3600, 0));
     map.set_hour_mode(HourMode::Twelve);
-    assert!(rt; map.cells == [0, 0, 0, 0, 3, 2, 1, 0, 1, 0, 0, 0, 0]);
+    assert!(rt; map.cells.digits == [0, 0, 0, 0, 3, 2, 1, 0, 1, 0, 0, 0, 0]);
     assert!(rt; map.shown() == None);
 }

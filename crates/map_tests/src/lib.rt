@@ -9,3 +9,7 @@ mod calendar_days;
 mod day_cells;
 #[cfg(test)]
 mod digit_cells;
+#[cfg(test)]
+mod shown_at;
+#[cfg(test)]
+mod still;

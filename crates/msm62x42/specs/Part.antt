@@ -7,19 +7,12 @@ use Rattle.register_map.specs.declared.hour_mode.HourMode.TheVariants.{Twelve, T
 use Rattle.register_map.specs.Chart.{map_state, put_byte}
 use Rattle.digit_map.specs.Cells.{digit_chart}
 use Rattle.clock_core.specs.Core.{CoreState, Accepted, idle_core, load_core, give_pulses, hold_core, release_core, with_map, set_core_mode, copied_front}
+use Rattle.clock_core.specs.View.{core_by}
 use Rattle.msm62x42.specs.declared.part.Msm62x42.{Msm62x42}
 
 -- the part as its contracts speak of it: its core over the digit map
 abbrev pub seen : Msm62x42 → CoreState
-seen p =
-    record {
-      map = map_state p.core.map.cells p.core.map.mode;
-      trim = p.core.trim;
-      position = p.core.position;
-      second = p.core.second_length;
-      held = p.core.held;
-      waits = p.core.boundary_waits;
-    }
+seen p = core_by (λ m. map_state m.cells.digits m.mode) p.core
 
 -- Dh: HOLD in bit 0, and in bit 1 BUSY, its opposite
 abbrev pub hold_register : Bool → ℕ

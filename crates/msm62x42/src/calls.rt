@@ -1,14 +1,16 @@
 // The calls of the part.
 ghost use Rattle.std.specs.Prelude.{◌≡◌, slice_index};
-ghost use Rattle.msm62x42.specs.Part.{seen, power_on, load_part, pulse_part, read_part, write_part, deselected, look_part, registers};
+ghost use Rattle.msm62x42.specs.Part.{seen, power_on, load_part, pulse_part, read_part, write_part, deselected, registers};
 
 use crate::control::HOLD_REGISTER;
 use crate::part::Msm62x42;
-use clock_core::cells::copy_front;
+use clock_core::cells::Registers;
 use clock_core::clock::ClockCore;
+use clock_core::setting::Setting;
 use digit_map::map::DigitMap;
 use refusals::Refusal;
 use register_map::map::RegisterMap;
+use std::array;
 
 impl Msm62x42 {
     // As the supply comes up: all registers zero but BUSY, nothing shown, 12-hour mode.
@@ -20,11 +22,16 @@ impl Msm62x42 {
         }
     }
 
-    // Shows a moment and weekday in an hour mode, released, at the beginning of a second.
+    // Shows a moment and weekday in an hour mode, released, at the beginning of a second. Not by a Setting: this part has no trim.
     pub fn load(&mut self, moment: u64, weekday: u32, mode: u32) -> Result<(), Refusal>
         ensures { (result, seen self.new) ≡ load_part (seen self.old) moment weekday mode }
     {
-        self.core.load(moment, weekday, 0, mode)
+        self.core.load(Setting {
+            moment,
+            weekday,
+            trim: 0,
+            mode,
+        })
     }
 
     pub fn pulses(&mut self, count: u64) -> Result<(), Refusal>
@@ -74,15 +81,16 @@ impl Msm62x42 {
     {
         let _ = self.core.release();
     }
+}
 
-    // Copies registers 0 to Fh to the front of a buffer.
-    pub fn look(&self, buffer: &mut [u8]) -> Result<(), Refusal>
-        ensures { (result, buffer.new) ≡ look_part (seen self.now) buffer.old }
-    {
-        let mut sixteen = [0u8; 16];
-        for i in 0..16 {
-            sixteen[i] = self.register(i);
-        }
-        copy_front(&sixteen, buffer)
+impl Registers for Msm62x42 {
+    ghost row = { λ p. registers (seen p) };
+
+    fn registers(&self) -> [u8; 16] {
+        array::from_fn(
+            |address| -> u8
+                ensures { result ≡ slice_index (registers (seen self.entry.now)) address }
+            { self.register(address) },
+        )
     }
 }

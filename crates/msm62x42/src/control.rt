@@ -1,6 +1,6 @@
 // Registers Dh to Fh: HOLD and BUSY, nothing, and the hour mode.
 ghost use Rattle.std.specs.Prelude.{◌≡◌, ◌-◌, ◌≤◌, slice_index};
-ghost use Rattle.msm62x42.specs.Part.{seen, control_registers, control_written, hour_mode_of};
+ghost use Rattle.msm62x42.specs.Part.{seen, control_registers, control_written};
 
 use crate::part::Msm62x42;
 use register_map::hour_mode::HourMode;
@@ -17,31 +17,16 @@ const BUSY: u8 = 2;
 
 const TWENTY_FOUR_HOURS: u8 = 4;
 
-fn hour_mode_of(data: u8) -> HourMode
-    ensures { result ≡ hour_mode_of «data» }
-{
-    if data / TWENTY_FOUR_HOURS % 2 == 1 {
-        HourMode::TwentyFour
-    } else {
-        HourMode::Twelve
-    }
-}
-
 impl Msm62x42 {
     // Reads Dh, Eh or Fh.
     pub(crate) fn control(&self, address: usize) -> u8
         requires { 13 ≤ address }
         ensures { result ≡ slice_index (control_registers (seen self.now)) (address - 13) }
     {
-        if address == HOLD_REGISTER {
-            if self.core.held { HOLD } else { BUSY }
-        } else if address == MODE_REGISTER {
-            match self.core.map.hour_mode() {
-                HourMode::Twelve => 0,
-                HourMode::TwentyFour => TWENTY_FOUR_HOURS,
-            }
-        } else {
-            0
+        match address {
+            HOLD_REGISTER => { if self.core.is_held() { HOLD } else { BUSY } }
+            MODE_REGISTER => self.core.map.hour_mode().bit(TWENTY_FOUR_HOURS),
+            _ => 0,
         }
     }
 
@@ -49,14 +34,19 @@ impl Msm62x42 {
     pub(crate) fn write_control(&mut self, address: usize, data: u8)
         ensures { seen self.new ≡ control_written (seen self.old) address «data» }
     {
-        if address == HOLD_REGISTER {
-            if data % 2 == HOLD {
-                let _ = self.core.hold();
-            } else {
-                let _ = self.core.release();
+        match address {
+            HOLD_REGISTER => {
+                let _ = if data % 2 == HOLD {
+                    self.core.hold()
+                } else {
+                    self.core.release()
+                };
             }
-        } else if address == MODE_REGISTER {
-            self.core.set_hour_mode(hour_mode_of(data));
+            MODE_REGISTER => {
+                self.core
+                    .set_hour_mode(HourMode::from_bit(data / TWENTY_FOUR_HOURS % 2 == 1));
+            }
+            _ => {}
         }
     }
 }

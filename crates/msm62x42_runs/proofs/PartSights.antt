@@ -9,9 +9,8 @@ use Rattle.digit_map.specs.Cells.{digit_chart}
 use Rattle.digit_map.specs.RowLaws.{digit_chart_lawful}
 use Rattle.clock_core.specs.Core.{CoreState, Accepted as Acceptance, with_map, many_pulses, released, set_core_mode, hold_core, release_core, load_refusal, loaded, unless_refused}
 use Rattle.msm62x42.specs.Part.{hour_mode_of, registers, control_registers, written}
-use Rattle.timekeeping.specs.declared.call.CoreAnswer.{CoreAnswer}
-use Rattle.timekeeping.specs.declared.call.CoreAnswer.TheVariants.{Registers, Refused}
-use Rattle.timekeeping.specs.CoreCalls.{accepted_with, byte_read, same_mode, one_cell}
+use Rattle.timekeeping.specs.declared.call.CoreAnswer.TheVariants.{Registers}
+use Rattle.timekeeping.specs.CoreCalls.{Answer, accepted_with, byte_read, same_mode, one_cell}
 use Rattle.timekeeping.specs.Law.{KeepsTime}
 use Rattle.timekeeping.specs.Logs.{Sight, Wrote, Nothing, Heard, Log, state_after}
 use Rattle.timekeeping.proofs.CoreSights.{acts_mode}
@@ -55,7 +54,7 @@ module _ (s : CoreState) where
   read_kept address true = refl
   read_kept address false = refl
 
-  look_kept : (room : ℕ) (short : Bool) → s.held ≡ hold_heard (Look room) (cond short (Refused ShortBuffer) (Registers (registers s))) s.held
+  look_kept : (room : ℕ) (short : Bool) → s.held ≡ hold_heard (Look room) (cond short (Err ShortBuffer) (Ok (Registers (registers s)))) s.held
   look_kept room true = refl
   look_kept room false = refl
 
@@ -74,7 +73,7 @@ hold_tracked mode start free [] heard = free
 hold_tracked mode start free (h ∷ log) heard =
     let s : CoreState = state_after part_machine start log in
     call_kept s h.call
-    ∙ ap (λ (a : CoreAnswer). hold_heard h.call a s.held) (sym heard.0)
+    ∙ ap (λ (a : Answer). hold_heard h.call a s.held) (sym heard.0)
     ∙ ap (hold_heard h.call h.answer) (hold_tracked mode start free log heard.1)
 
 module _ (mode : HourMode) (s : CoreState) (hold : Bool) (stands : s.held ≡ hold) where
@@ -129,7 +128,7 @@ module _ (mode : HourMode) (s : CoreState) (hold : Bool) (stands : s.held ≡ ho
       here ∙ cell_is cell (ltb-true _ _ e) whole
   row_is cell byte false e whole f = cc
 
-  acts_look : (room : ℕ) (short : Bool) → Acts digit_chart mode (part_sight mode hold (Look room) (cond short (Refused ShortBuffer) (Registers (registers s)))) s s
+  acts_look : (room : ℕ) (short : Bool) → Acts digit_chart mode (part_sight mode hold (Look room) (cond short (Err ShortBuffer) (Ok (Registers (registers s))))) s s
   acts_look room true = λ _. refl
   acts_look room false = (refl, λ whole cell byte f. row_is cell byte (ltb cell 13) refl whole f)
 
@@ -146,7 +145,7 @@ pub part_true : (start : CoreState) → start.held ≡ false → (mode : HourMod
 part_true start free mode h log heard =
     let s : CoreState = state_after part_machine start log in
     let stands = hold_tracked mode start free log heard.1 in
-    let P : CoreAnswer → Type 0 = λ a. Acts digit_chart mode (part_sight mode (hold_stands log) h.call a) s (do_call s h.call).1 in
+    let P : Answer → Type 0 = λ a. Acts digit_chart mode (part_sight mode (hold_stands log) h.call a) s (do_call s h.call).1 in
     subst P (sym heard.0) (acts_call mode s (hold_stands log) stands h.call)
 
 -- the law for every list of calls on a part

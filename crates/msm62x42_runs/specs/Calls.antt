@@ -1,26 +1,25 @@
 -- The calls of a 62X42 as a list has them: what each answers and leaves, and what an onlooker makes of it.
-use Rattle.std.specs.Prelude.{ℕ, ◌%◌, Bool, true, false, cond, List, [], ◌∷◌, ◌==◌, nat_lt}
+use Rattle.std.specs.Prelude.{ℕ, ◌%◌, Bool, true, false, cond, List, [], ◌∷◌, Ok, Err, ◌==◌, nat_lt}
 use Rattle.refusals.specs.declared.Refusal.TheVariants.{ShortBuffer}
 use Rattle.register_map.specs.declared.hour_mode.HourMode.{HourMode}
 use Rattle.clock_core.specs.Core.{CoreState}
 use Rattle.msm62x42.specs.Part.{load_part, pulse_part, read_part, write_part, deselected, registers, hour_mode_of}
-use Rattle.timekeeping.specs.declared.call.CoreAnswer.{CoreAnswer}
-use Rattle.timekeeping.specs.declared.call.CoreAnswer.TheVariants.{Accepted, Byte, Registers, Refused}
-use Rattle.timekeeping.specs.CoreCalls.{accepted_with, byte_read, same_mode, one_cell, cells_of}
-use Rattle.timekeeping.specs.Logs.{Sight, Took, Held, Released, Wrote, Gave, Nothing, Heard, Machine}
+use Rattle.timekeeping.specs.declared.call.CoreAnswer.TheVariants.{Accepted, Byte, Registers}
+use Rattle.timekeeping.specs.CoreCalls.{Answer, accepted_with, byte_read, same_mode, one_cell, cells_of}
+use Rattle.timekeeping.specs.Logs.{Sight, Took, Held, Released, Wrote, Gave, Nothing, Heard, Machine, machine_of}
 use Rattle.msm62x42_runs.specs.declared.call.PartCall.{PartCall}
 use Rattle.msm62x42_runs.specs.declared.call.PartCall.TheVariants.{Load, Pulses, Read, Write, Deselect, Look}
 
-abbrev pub registers_seen : CoreState → ℕ → CoreAnswer
-registers_seen s room = cond (nat_lt room 16) (Refused ShortBuffer) (Registers (registers s))
+abbrev pub registers_seen : CoreState → ℕ → Answer
+registers_seen s room = cond (nat_lt room 16) (Err ShortBuffer) (Ok (Registers (registers s)))
 
 -- One call: its answer, and the part after it.
-abbrev pub do_call : CoreState → PartCall → CoreAnswer × CoreState
+abbrev pub do_call : CoreState → PartCall → Answer × CoreState
 do_call s (Load moment weekday mode) = accepted_with (load_part s moment weekday mode)
 do_call s (Pulses n) = accepted_with (pulse_part s n)
 do_call s (Read address) = (byte_read (read_part s address), s)
 do_call s (Write address number) = accepted_with (write_part s address number)
-do_call s Deselect = (Accepted, deselected s)
+do_call s Deselect = (Ok Accepted, deselected s)
 do_call s (Look room) = (registers_seen s room, s)
 
 -- What an onlooker makes of them.
@@ -34,14 +33,14 @@ hold_after (Write address number) before = cond (nat_lt address 13) before (cond
 hold_after Deselect before = false
 hold_after (Look _) before = before
 
-abbrev pub hold_heard : PartCall → CoreAnswer → Bool → Bool
-hold_heard call Accepted before = hold_after call before
-hold_heard call (Byte _) before = before
-hold_heard call (Registers _) before = before
-hold_heard call (Refused _) before = before
+abbrev pub hold_heard : PartCall → Answer → Bool → Bool
+hold_heard call (Ok Accepted) before = hold_after call before
+hold_heard call (Ok (Byte _)) before = before
+hold_heard call (Ok (Registers _)) before = before
+hold_heard call (Err _) before = before
 
 -- whether HOLD stands after a log
-unfoldable pub hold_stands : List (Heard PartCall CoreAnswer) → Bool
+unfoldable pub hold_stands : List (Heard PartCall Answer) → Bool
 hold_stands [] = false
 hold_stands (h ∷ log) = hold_heard h.call h.answer (hold_stands log)
 
@@ -75,20 +74,12 @@ read_sight (Write _ _) byte = Nothing
 read_sight Deselect byte = Nothing
 read_sight (Look _) byte = Nothing
 
-abbrev pub part_sight : HourMode → Bool → PartCall → CoreAnswer → Sight
-part_sight mode hold call Accepted = accepted_sight mode hold call
-part_sight mode hold call (Byte byte) = read_sight call byte
-part_sight mode hold call (Registers row) = Gave (cells_of 13 row)
-part_sight mode hold call (Refused _) = Nothing
+abbrev pub part_sight : HourMode → Bool → PartCall → Answer → Sight
+part_sight mode hold call (Ok Accepted) = accepted_sight mode hold call
+part_sight mode hold call (Ok (Byte byte)) = read_sight call byte
+part_sight mode hold call (Ok (Registers row)) = Gave (cells_of 13 row)
+part_sight mode hold call (Err _) = Nothing
 
 -- The part over its own map.
 abbrev pub part_machine : Machine
-part_machine =
-    record {
-      Call = PartCall;
-      Answer = CoreAnswer;
-      State = CoreState;
-      step = do_call;
-      core = λ s. s;
-      sight = λ mode before h. part_sight mode (hold_stands before) h.call h.answer;
-    }
+part_machine = machine_of do_call (λ s. s) (λ mode before h. part_sight mode (hold_stands before) h.call h.answer)

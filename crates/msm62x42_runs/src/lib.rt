@@ -1,5 +1,5 @@
-// Lists of calls on one 62X42, and the law of timekeeping that every such list keeps.
+// The calls of a 62X42 as lists have them, and the law of timekeeping that every such list keeps.
 #![tactic(auto)]
 
 pub mod call;
-pub mod work;
+pub mod start;

@@ -14,8 +14,8 @@ fn digits_after(pulses: u64) -> [u8; 13] {
 // Reads the digits one by one, with a pulse after each.
 fn read_slowly(part: &mut msm62x42::part::Msm62x42) -> Result<[u8; 13], Fail> {
     let mut digits = [0u8; 13];
-    for address in 0..13u32 {
-        digits[address as usize] = part.read(address)?;
+    for (digit, address) in digits.iter_mut().zip(0..13u32) {
+        *digit = part.read(address)?;
         part.pulses(1)?;
     }
     Ok(digits)

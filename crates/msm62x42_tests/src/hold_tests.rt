@@ -13,7 +13,7 @@ fn hold_while_held(rt: HostRuntime) -> Result<(), Fail> {
         part.write(CONTROL_D, 1)?;
         assert_eq!(rt; all_of(&part)?, before);
     }
-    assert!(rt; part.core.boundary_waits);
+    assert!(rt; part.core.boundary_waits());
     unlock(&mut part)?;
     assert_eq!(rt; part.read(0)?, 6);
     Ok(())
@@ -45,7 +45,7 @@ fn deselect_releases(rt: HostRuntime) -> Result<(), Fail> {
         assert_eq!(rt; (part.read(0)?, part.read(CONTROL_D)?), (5, 1));
         part.deselect();
         assert_eq!(rt; (part.read(0)?, part.read(CONTROL_D)?), (shown, 2));
-        assert!(rt; !part.core.boundary_waits);
+        assert!(rt; !part.core.boundary_waits());
     }
     Ok(())
 }
@@ -56,7 +56,7 @@ fn load_releases(rt: HostRuntime) -> Result<(), Fail> {
     let mut part = part_at(5, TWELVE)?;
     lock(&mut part)?;
     part.pulses(40_000)?;
-    assert!(rt; part.core.boundary_waits);
+    assert!(rt; part.core.boundary_waits());
     part.load(0, 6, TWENTY_FOUR)?;
     let loaded = [0, 0, 0, 0, 0, 0, 1, 0, 1, 0, 0, 0, 6, 2, 0, 4];
     assert_eq!(rt; all_of(&part)?, (loaded, 0, 32_768, false));

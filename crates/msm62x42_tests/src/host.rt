@@ -1,4 +1,5 @@
 // A host that drives the part as operating systems do, and parts for it.
+use clock_core::cells::Registers;
 use msm62x42::part::Msm62x42;
 use std::test::Fail;
 
@@ -63,15 +64,15 @@ pub(crate) fn unlock(part: &mut Msm62x42) -> Result<(), Fail> {
 // All digits, one read after the other.
 pub(crate) fn read_digits(part: &Msm62x42) -> Result<[u8; 13], Fail> {
     let mut digits = [0u8; 13];
-    for address in 0..13u32 {
-        digits[address as usize] = part.read(address)?;
+    for (digit, address) in digits.iter_mut().zip(0..13u32) {
+        *digit = part.read(address)?;
     }
     Ok(digits)
 }
 
 pub(crate) fn write_digits(part: &mut Msm62x42, digits: [u8; 13]) -> Result<(), Fail> {
-    for address in 0..13u32 {
-        part.write(address, u32::from(digits[address as usize]))?;
+    for (address, digit) in (0..13u32).zip(digits) {
+        part.write(address, u32::from(digit))?;
     }
     Ok(())
 }
@@ -84,6 +85,6 @@ pub(crate) fn all_of(part: &Msm62x42) -> Result<([u8; 16], u32, u32, bool), Fail
         registers,
         part.core.position,
         part.core.second_length,
-        part.core.boundary_waits,
+        part.core.boundary_waits(),
     ))
 }

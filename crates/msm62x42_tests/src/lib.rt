@@ -1,4 +1,4 @@
-// Tests of the 62X42: what a host that is written for the chip does and sees, and runs that no single contract speaks of.
+// What the calls of the traits promise of a 62X42, and tests: what a host that is written for the chip does and sees, and runs that no single contract speaks of.
 #![tactic(auto)]
 
 #[cfg(test)]
@@ -13,5 +13,6 @@ mod host_tests;
 mod hour_tests;
 #[cfg(test)]
 mod list_tests;
+pub mod promises;
 #[cfg(test)]
 mod refusal_tests;

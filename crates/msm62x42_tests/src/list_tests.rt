@@ -1,10 +1,10 @@
 // One list of calls, with all its answers.
 use crate::host::*;
 use msm62x42_runs::call::PartCall;
-use msm62x42_runs::work::work_calls;
 use refusals::Refusal;
 use std::test::Fail;
 use timekeeping::call::CoreAnswer;
+use timekeeping::work::work_calls;
 
 // Held over the end of an hour and read, with refusals among them.
 const CALLS: [PartCall; 16] = [
@@ -26,33 +26,31 @@ const CALLS: [PartCall; 16] = [
     PartCall::Look(17),
 ];
 
-const ANSWERS: [CoreAnswer; 16] = [
-    CoreAnswer::Accepted,
-    CoreAnswer::Accepted,
-    CoreAnswer::Byte(1),
-    CoreAnswer::Byte(9),
-    CoreAnswer::Accepted,
-    CoreAnswer::Refused(Refusal::TooManyPulses),
-    CoreAnswer::Byte(3),
-    CoreAnswer::Refused(Refusal::NoSuchCell),
-    CoreAnswer::Refused(Refusal::NoSuchMoment),
-    CoreAnswer::Refused(Refusal::ShortBuffer),
-    CoreAnswer::Registers([9, 5, 9, 5, 3, 1, 7, 1, 7, 0, 6, 2, 5, 1, 0, 4]),
-    CoreAnswer::Accepted,
-    CoreAnswer::Refused(Refusal::NoSuchCell),
-    CoreAnswer::Accepted,
-    CoreAnswer::Accepted,
-    CoreAnswer::Registers([0, 0, 0, 0, 4, 1, 7, 1, 7, 0, 6, 2, 5, 2, 0, 4]),
+// Apart from the calls, which are worked as one slice.
+const ANSWERS: [Result<CoreAnswer, Refusal>; 16] = [
+    Ok(CoreAnswer::Accepted),
+    Ok(CoreAnswer::Accepted),
+    Ok(CoreAnswer::Byte(1)),
+    Ok(CoreAnswer::Byte(9)),
+    Ok(CoreAnswer::Accepted),
+    Err(Refusal::TooManyPulses),
+    Ok(CoreAnswer::Byte(3)),
+    Err(Refusal::NoSuchCell),
+    Err(Refusal::NoSuchMoment),
+    Err(Refusal::ShortBuffer),
+    Ok(CoreAnswer::Registers([9, 5, 9, 5, 3, 1, 7, 1, 7, 0, 6, 2, 5, 1, 0, 4])),
+    Ok(CoreAnswer::Accepted),
+    Err(Refusal::NoSuchCell),
+    Ok(CoreAnswer::Accepted),
+    Ok(CoreAnswer::Accepted),
+    Ok(CoreAnswer::Registers([0, 0, 0, 0, 4, 1, 7, 1, 7, 0, 6, 2, 5, 2, 0, 4])),
 ];
 
 #[test]
 fn a_list_and_its_answers(rt: HostRuntime) -> Result<(), Fail> {
     let mut part = part_at(50_399, TWENTY_FOUR)?;
     let answers = work_calls(rt.alloc(), &mut part, &CALLS)?;
-    assert_eq!(rt; answers.len(), 16);
-    for (answer, wanted) in answers.iter().zip(ANSWERS.iter()) {
-        assert_eq!(rt; *answer, *wanted);
-    }
-    assert_eq!(rt; (part.core.position, part.core.held), (12, false));
+    assert_eq!(rt; answers.as_slice(), ANSWERS.as_slice());
+    assert_eq!(rt; (part.core.position, part.core.is_held()), (12, false));
     Ok(())
 }

@@ -1,14 +1,12 @@
 // What each call refuses, by number, and that a refused call changes nothing.
 use crate::host::*;
+use clock_core::cells::Registers;
 use refusals::Refusal;
 use std::test::Fail;
 
 // The number of a refusal, or 0.
 fn number(res: Result<(), Refusal>) -> u8 {
-    match res {
-        Ok(()) => 0,
-        Err(why) => why.number(),
-    }
+    res.err().map_or(0, u8::from)
 }
 
 // The moment and the weekday are looked at first, then the mode.
@@ -68,11 +66,7 @@ fn look_refuses(rt: HostRuntime) -> Result<(), Fail> {
 fn read_refuses(rt: HostRuntime) -> Result<(), Fail> {
     let part = part_at(5, TWENTY_FOUR)?;
     for (address, answer) in [(0, Ok(5)), (15, Ok(4)), (16, Err(7)), (u32::MAX, Err(7))] {
-        let read = match part.read(address) {
-            Ok(byte) => Ok(byte),
-            Err(why) => Err(why.number()),
-        };
-        assert_eq!(rt; read, answer);
+        assert_eq!(rt; part.read(address).map_err(u8::from), answer);
     }
     Ok(())
 }

@@ -1,8 +1,11 @@
 // Why a call is refused. Each case has its number in the refusal table (docs/REFUSALS.md).
 #![tactic(auto)]
 
-ghost use Rattle.std.specs.Prelude.{◌≡◌};
+ghost use Rattle.std.specs.Prelude.{◌≡◌, ◌++◌, Some, codes, decimal};
 ghost use Rattle.refusals.specs.Numbers.{number_of};
+
+use std::error::Error;
+use std::fmt;
 
 #[derive(Clone, Copy, PartialEq, Eq, Debug)]
 pub enum Refusal {
@@ -38,12 +41,12 @@ pub enum Refusal {
     BadNumber,
 }
 
-impl Refusal {
-    // The number by which makers and hosts know it.
-    pub fn number(self) -> u8
-        ensures { result ≡ number_of self }
-    {
-        match self {
+// The number by which makers and hosts know it. By a match: two pairs of refusals share a number, so it is no discriminant.
+impl From<Refusal> for u8 {
+    ghost from_gives = { λ why number. number ≡ number_of why };
+
+    fn from(why: Refusal) -> u8 {
+        match why {
             Refusal::NoSuchMoment => 1,
             Refusal::NoSuchSetting => 2,
             Refusal::TooManyPulses => 3,
@@ -62,3 +65,13 @@ impl Refusal {
         }
     }
 }
+
+impl fmt::Display for Refusal {
+    ghost output = { λ why. Some (codes "refused with " ++ decimal (number_of why)) };
+
+    fn fmt<W: fmt::Write>(&self, f: &mut fmt::Formatter<W>) -> fmt::Result {
+        write!(f, "refused with {}", u8::from(*self))
+    }
+}
+
+impl Error for Refusal {}

@@ -1,11 +1,7 @@
 -- What a register map means: the moment and weekday that its cells are the code of, and what each call does to the cells.
 use Rattle.std.specs.Prelude.{◌≡◌, ℕ, ◌+◌, ◌%◌, ◌^◌, ◌<◌, ◌≤◌, cond, List, length, Some, None, Option, ◌==◌, bit_and, slice_index, slice_set}
 use Rattle.register_map.specs.declared.hour_mode.HourMode.{HourMode}
-
--- A moment counts whole seconds from the start of the map's cycle; a weekday is 0 to 6.
-pub record Shown : Type 0 where
-  pub moment : ℕ
-  pub weekday : ℕ
+use Rattle.register_map.specs.declared.shown.Shown.{Shown}
 
 -- What a map states: how many cells, its cycle in seconds, the used bits of each cell,
 -- the cells for a moment and weekday in a mode, and what given cells show in a mode.

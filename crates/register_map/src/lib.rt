@@ -4,3 +4,4 @@
 
 pub mod hour_mode;
 pub mod map;
+pub mod shown;

@@ -1,10 +1,11 @@
 // The interface of a register map.
-ghost use Rattle.std.specs.Prelude.{◌≡◌, ℕ, ◌<◌, ◌≤◌, List, length, Option, slice_index};
+ghost use Rattle.std.specs.Prelude.{◌≡◌, ℕ, ◌<◌, length, Option, slice_index};
 ghost use Rattle.std.specs.Option.{option_map};
-ghost use Rattle.register_map.specs.Chart.{Chart, Shown, Lawful, MapState, map_state, put_byte, set_mode, showing, advanced, second_of};
-ghost use Rattle.register_map.specs.declared.hour_mode.HourMode.{HourMode as Mode};
+ghost use Rattle.register_map.specs.Chart.{Chart, Showable, Lawful, MapState, shown_by, put_byte, set_mode, showing, advanced, second_of};
+ghost use Rattle.register_map.specs.declared.shown.Shown.{Shown as MomentShown};
 
 use crate::hour_mode::HourMode;
+use crate::shown::Shown;
 
 pub trait RegisterMap {
     // The number of cells, at most 16.
@@ -13,54 +14,54 @@ pub trait RegisterMap {
     // The seconds of its cycle: whole days.
     const CYCLE: u64;
 
+    ghost CELLS: { ℕ };
+
+    ghost CYCLE: { ℕ };
+
     // What the map states of itself: cells, cycle, used bits, code, and how cells are read back.
     ghost chart: { Chart };
 
-    ghost cells: { Self → List ℕ };
+    // Its cells and its hour mode.
+    ghost state: { Self → MapState };
 
-    ghost mode: { Self → Mode };
-
-    ghost shown: { Self → Option Shown };
-
-    // CELLS and CYCLE, for code over any map.
-    fn cell_count() -> usize
-        ensures { result ≡ chart.count };
-
-    fn cycle_seconds() -> u64
-        ensures { result ≡ chart.cycle };
+    ghost shown: { Self → Option MomentShown };
 
     fn read(&self, cell: usize) -> u8
         requires { cell < chart.count }
-        ensures { result ≡ slice_index (cells self.now) cell };
+        ensures { result ≡ slice_index (state self.now).cells cell };
 
     // Replaces one cell; its unused bits are cleared.
     fn put(&mut self, cell: usize, byte: u8)
         requires { cell < chart.count }
-        ensures { map_state (cells self.new) (mode self.new) ≡ put_byte chart (map_state (cells self.old) (mode self.old)) cell byte };
+        ensures { state self.new ≡ put_byte chart (state self.old) cell byte };
 
     fn hour_mode(&self) -> HourMode
-        ensures { result ≡ mode self.now };
+        ensures { result ≡ (state self.now).mode };
 
     // The cells stay as they are, so what the map shows may change.
     fn set_hour_mode(&mut self, to: HourMode)
-        ensures { map_state (cells self.new) (mode self.new) ≡ set_mode (map_state (cells self.old) (mode self.old)) to };
+        ensures { state self.new ≡ set_mode (state self.old) to };
 
-    fn show(&mut self, moment: u64, weekday: u8)
-        requires { (moment < chart.cycle) × (weekday < 7) }
-        ensures { map_state (cells self.new) (mode self.new) ≡ showing chart (map_state (cells self.old) (mode self.old)) (record { moment = moment; weekday = weekday }) };
+    fn show(&mut self, at: Shown)
+        requires { Showable chart at }
+        ensures { state self.new ≡ showing chart (state self.old) at };
 
     // One second on, round the cycle; a map that shows none stays as it is.
     fn advance(&mut self)
-        ensures { map_state (cells self.new) (mode self.new) ≡ advanced chart (map_state (cells self.old) (mode self.old)) };
+        ensures { state self.new ≡ advanced chart (state self.old) };
 
     // The seconds value of the moment shown.
     fn seconds_value(&self) -> Option<u8>
         ensures { result ≡ option_map second_of (shown self.now) };
 
+    ghost counted: { CELLS ≡ chart.count };
+
+    ghost cycled: { CYCLE ≡ chart.cycle };
+
     ghost lawful: { Lawful chart };
 
     // It shows the moment and weekday whose code its cells are.
-    ghost shows: { (m : Self) → shown m ≡ chart.reads (mode m) (cells m) };
+    ghost shows: { (m : Self) → shown m ≡ shown_by chart (state m) };
 
-    ghost whole: { (m : Self) → length (cells m) ≡ chart.count };
+    ghost whole: { (m : Self) → length (state m).cells ≡ chart.count };
 }

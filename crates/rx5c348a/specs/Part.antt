@@ -1,12 +1,14 @@
 -- The 348A: what it shows of its registers, and what each call answers and leaves.
 use Rattle.std.specs.Prelude.{ℕ, Bool, true, false, cond, List, [], ◌∷◌, ◌++◌, replicate, Ok, Err}
-use Rattle.register_map.specs.declared.hour_mode.HourMode.{HourMode}
-use Rattle.register_map.specs.declared.hour_mode.HourMode.TheVariants.{Twelve, TwentyFour}
+use Rattle.register_map.specs.declared.hour_mode.HourMode.TheVariants.{Twelve}
+use Rattle.register_map.specs.Modes.{mode_bit}
 use Rattle.register_map.specs.Chart.{map_state}
 use Rattle.byte_map.specs.Cells.{byte_chart}
-use Rattle.byte_map.specs.declared.map.ByteMap.{ByteMap}
+use Rattle.byte_map.specs.declared.cells.ByteCells.{ByteCells}
+use Rattle.civil_map.specs.declared.map.CivilMap.{CivilMap}
 use Rattle.clock_core.specs.Core.{CoreState, Accepted, idle_core, load_core, give_pulses, copied_front}
 use Rattle.clock_core.specs.declared.clock.ClockCore.{ClockCore}
+use Rattle.clock_core.specs.View.{core_by}
 use Rattle.rx5c348a.specs.declared.part.Rx5c348a.{Rx5c348a}
 
 -- A part: its core over the byte map, and XSTP.
@@ -14,27 +16,15 @@ pub record PartState : Type 0 where
   pub core : CoreState
   pub stopped : Bool
 
-abbrev pub core_seen : ClockCore ByteMap → CoreState
-core_seen s =
-    record {
-      map = map_state s.map.cells s.map.mode;
-      trim = s.trim;
-      position = s.position;
-      second = s.second_length;
-      held = s.held;
-      waits = s.boundary_waits;
-    }
+abbrev pub core_seen : ClockCore (CivilMap ByteCells) → CoreState
+core_seen s = core_by (λ m. map_state m.cells.bytes m.mode) s
 
 abbrev pub seen : Rx5c348a → PartState
 seen p = record { core = core_seen p.core; stopped = p.oscillator_stopped }
 
 -- the hour mode stands in bit 5 of register Eh
-abbrev pub mode_bit : HourMode → ℕ
-mode_bit Twelve = 0
-mode_bit TwentyFour = 0x20
-
 abbrev pub control_byte : PartState → ℕ
-control_byte p = mode_bit p.core.map.mode
+control_byte p = mode_bit 0x20 p.core.map.mode
 
 -- XSTP stands in bit 4 of register Fh
 abbrev pub flag_byte : PartState → ℕ

@@ -1,4 +1,4 @@
-// The 348A: a clock part with sixteen registers over the byte map.
+// The smaller 348A: its clock alone, over the byte map. The whole part is rx5c348a_whole.
 #![tactic(auto)]
 
 pub mod calls;

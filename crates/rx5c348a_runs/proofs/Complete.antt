@@ -1,5 +1,5 @@
 -- Nothing escapes the onlooker: his notes follow the part, so what he makes of its calls is what the part does.
-use Rattle.std.proofs.Common.{◌≡◌, ℕ, ◌-◌, ◌/◌, ◌^◌, ◌<◌, ◌≤◌, Bool, true, false, cond, eqb, ltb, List, [], ◌∷◌, length, get_or, Some, None, sym, refl, ap, ◌∙◌, subst, ap₂, div-one, arith, ltb-false, ltb-true, le-ltb, lt-ltb, eq-eqb, eqb-true}
+use Rattle.std.proofs.Common.{Ok, Err, ◌≡◌, ℕ, ◌-◌, ◌/◌, ◌^◌, ◌<◌, ◌≤◌, Bool, true, false, cond, eqb, ltb, List, [], ◌∷◌, length, get_or, Some, None, sym, refl, ap, ◌∙◌, subst, ap₂, div-one, arith, ltb-false, ltb-true, le-ltb, lt-ltb, eq-eqb, eqb-true}
 use lib.Bits.{bit_and}
 use Rattle.refusals.specs.declared.Refusal.TheVariants.{ShortBuffer}
 use Rattle.register_map.specs.declared.hour_mode.HourMode.{HourMode}
@@ -15,7 +15,7 @@ use Rattle.timekeeping.specs.CoreCalls.{same_mode, one_cell, cells_of}
 use Rattle.timekeeping.specs.Logs.{Sight, Held, Released, Wrote, Gave, Nothing, Log, log_of, is_write}
 use Rattle.timekeeping.proofs.Heard.{truly_with}
 use Rattle.rx5c348a_runs.specs.declared.call.WireCall.TheVariants.{Pins, Look}
-use Rattle.rx5c348a_runs.specs.declared.call.WireAnswer.TheVariants.{Refused, Registers}
+use Rattle.rx5c348a_runs.specs.declared.call.WireAnswer.TheVariants.{Registers}
 use Rattle.rx5c348a_runs.specs.Onlooker.{Next, AHeader, WriteTo, ReadFrom, Unheard, Notes, spelt, given_by, landed_by}
 use Rattle.rx5c348a_runs.specs.Calls.{levels_answered, pins_sight, look_sight, call_sight, do_call, notes, part_machine}
 use Rattle.rx5c348a_runs.specs.Complete.{EighthRise, Disturbs, CalendarOrTrim, OtherHourMode, Disturbance, WholeCalendar, EverythingIsSeen}
@@ -199,7 +199,7 @@ module _ (mode : HourMode) (e : Notes) (p : PartState) (t : Tracks e p) where
   looks_seen room enough =
       record {
         bytes = cells_of 7 (registers p.file);
-        given = ap (λ (b : Bool). look_sight (cond b (Refused ShortBuffer) (Registers (registers p.file)))) (le-ltb room 16 enough);
+        given = ap (λ (b : Bool). look_sight (cond b (Err ShortBuffer) (Ok (Registers (registers p.file))))) (le-ltb room 16 enough);
         each = λ cell less.
             ap (λ (b : Bool). cond b (Some (get_or (registers p.file) cell 0)) None) (lt-ltb _ _ less)
             ∙ ap Some (lower_register p.file cell t.sound.seven less);

@@ -8,7 +8,8 @@ use Rattle.refusals.specs.declared.Refusal.{Refusal}
 use Rattle.refusals.specs.declared.Refusal.TheVariants.{NoSuchLevels, TwoPinsChange, TooManyPulses, ShortBuffer}
 use Rattle.register_map.specs.declared.hour_mode.HourMode.{HourMode}
 use Rattle.register_map.specs.declared.hour_mode.HourMode.TheVariants.{TwentyFour}
-use Rattle.register_map.specs.Chart.{Shown, map_state, second_of}
+use Rattle.register_map.specs.declared.shown.Shown.{Shown}
+use Rattle.register_map.specs.Chart.{map_state, second_of}
 use Rattle.byte_map.specs.Cells.{byte_chart}
 use Rattle.byte_map.specs.RowLaws.{byte_chart_lawful}
 use Rattle.clock_core.specs.Core.{Accepted as Acceptance}
@@ -27,10 +28,9 @@ use Rattle.timekeeping.proofs.Keeping.{length_low}
 use Rattle.timekeeping.proofs.ShortLogs.{unreleased_by, unreleased_pulses, all_short, short_by_test}
 use Rattle.rx5c348a_runs.specs.declared.call.WireCall.{WireCall}
 use Rattle.rx5c348a_runs.specs.declared.call.WireCall.TheVariants.{Load, Pulses, Pins, Look}
-use Rattle.rx5c348a_runs.specs.declared.call.WireAnswer.{WireAnswer}
-use Rattle.rx5c348a_runs.specs.declared.call.WireAnswer.TheVariants.{Levels, Registers, Refused}
+use Rattle.rx5c348a_runs.specs.declared.call.WireAnswer.TheVariants.{Levels, Registers}
 use Rattle.rx5c348a_runs.specs.Onlooker.{Next, AHeader, WriteTo, ReadFrom, Unheard, Notes, silent, noted, levels_sight, spelt, ce_noted, rise_noted, bit_noted, given_by}
-use Rattle.rx5c348a_runs.specs.Calls.{acceptance, levels_answered, do_call, work_one, note, notes, pins_noted, pins_sight, pulses_sight, look_sight, call_sight, part_machine}
+use Rattle.rx5c348a_runs.specs.Calls.{Answered, acceptance, levels_answered, do_call, work_one, note, notes, pins_noted, pins_sight, pulses_sight, look_sight, call_sight, part_machine}
 use Rattle.rx5c348a_runs.specs.Start.{Loaded}
 use Rattle.rx5c348a_runs.specs.Example.{bits_clocked, before_the_stretch, example_calls, times_given, MeetsPremises, example_part, BeginsPlain, PremisesCanBeMet}
 use Rattle.rx5c348a_runs.proofs.Tracking.{Tracks, notes_of, never}
@@ -51,20 +51,20 @@ shapes (x ∷ sights) = shape x ∷ shapes sights
 
 -- whether a call is accepted after these notes; loads are left out
 abbrev accepts : Notes → WireCall → Bool
-accepts e (Load _ _ _ _) = false
+accepts e (Load _) = false
 accepts e (Pulses n) = not (ltb 1048576 n)
 accepts e (Pins levels) = not (ltb 7 levels) && not (differ (has levels 4) e.ce && differ (has levels 2) e.sclk)
 accepts e (Look room) = not (ltb room 16)
 
 -- what is noted and seen of an accepted call, SO being unheard
 abbrev noted_deaf : Notes → WireCall → Notes
-noted_deaf e (Load _ _ _ _) = e
+noted_deaf e (Load _) = e
 noted_deaf e (Pulses _) = e
 noted_deaf e (Pins levels) = noted e (has levels 4) (has levels 2) (bit_and levels 1) 0
 noted_deaf e (Look _) = e
 
 abbrev seen_deaf : HourMode → Notes → WireCall → Sight
-seen_deaf mode e (Load _ _ _ _) = Nothing
+seen_deaf mode e (Load _) = Nothing
 seen_deaf mode e (Pulses n) = Took n
 seen_deaf mode e (Pins levels) = levels_sight mode e (has levels 4) (has levels 2) (bit_and levels 1) 0
 seen_deaf mode e (Look _) = Gave (λ _. None)
@@ -125,11 +125,11 @@ module _ (mode : HourMode) (e : Notes) (p : PartState) (t : Tracks e p) (q : Not
   pulses_seen n true ok = never ok
   pulses_seen n false ok = refl
 
-  look_seen : (short : Bool) → not short ≡ true → shape (look_sight (cond short (Refused ShortBuffer) (Registers (registers p.file)))) ≡ Gave (λ _. None)
+  look_seen : (short : Bool) → not short ≡ true → shape (look_sight (cond short (Err ShortBuffer) (Ok (Registers (registers p.file))))) ≡ Gave (λ _. None)
   look_seen true ok = never ok
   look_seen false ok = refl
 
-  pins_answered : (over two : Bool) → not over ≡ true → not two ≡ true → (a : PinAnswer) (d : PartState) → levels_answered (cond {A = Result PinAnswer Refusal × PartState} over (Err NoSuchLevels, p) (cond two (Err TwoPinsChange, p) (Ok a, d))).0 ≡ Levels a
+  pins_answered : (over two : Bool) → not over ≡ true → not two ≡ true → (a : PinAnswer) (d : PartState) → levels_answered (cond {A = Result PinAnswer Refusal × PartState} over (Err NoSuchLevels, p) (cond two (Err TwoPinsChange, p) (Ok a, d))).0 ≡ Ok (Levels a)
   pins_answered true two a b answer d = never a
   pins_answered false true a b answer d = never b
   pins_answered false false a b answer d = refl
@@ -156,16 +156,16 @@ module _ (mode : HourMode) (e : Notes) (p : PartState) (t : Tracks e p) (q : Not
       let k : p.sclk ≡ q.sclk = t.sclk ∙ ap (λ (n : Notes). n.sclk) alike.is in
       let one : not (differ x p.ce && differ y p.sclk) ≡ true =
       ap₂ (λ (i j : Bool). not (differ x i && differ y j)) c k ∙ second_of_both (not (ltb 7 levels)) _ ok in
-      let answer : (do_call p (Pins levels)).0 ≡ Levels a =
+      let answer : (do_call p (Pins levels)).0 ≡ Ok (Levels a) =
       pins_answered (ltb 7 levels) (differ x p.ce && differ y p.sclk) (first_of (not (ltb 7 levels)) _ ok) one a (driven p x y s) in
       record {
-        noted = subst (λ (w : WireAnswer). Alike (pins_noted x y s w e) (noted q x y s 0)) (sym answer) (pins_alike x y s (out_number a.so));
-        seen = ap (λ (w : WireAnswer). shape (pins_sight mode e x y s w)) answer ∙ pins_shape x y s (out_number a.so);
+        noted = subst (λ (w : Answered). Alike (pins_noted x y s w e) (noted q x y s 0)) (sym answer) (pins_alike x y s (out_number a.so));
+        seen = ap (λ (w : Answered). shape (pins_sight mode e x y s w)) answer ∙ pins_shape x y s (out_number a.so);
       }
 
   after_call : (call : WireCall) → accepts q call ≡ true → AlikeAfter call
   unfolding pulse_part
-  after_call (Load moment weekday trim o) ok = never ok
+  after_call (Load to) ok = never ok
   after_call (Pulses n) ok = record { noted = alike; seen = ap shape (pulses_seen n (ltb 1048576 n) ok) }
   after_call (Pins levels) ok = after_pins levels ok
   after_call (Look room) ok = record { noted = alike; seen = look_seen (ltb room 16) ok }

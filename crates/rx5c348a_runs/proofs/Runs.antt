@@ -7,6 +7,7 @@ use Rattle.register_map.specs.declared.hour_mode.HourMode.{HourMode}
 use Rattle.register_map.specs.Chart.{MapState, map_state}
 use Rattle.byte_map.specs.Cells.{byte_chart}
 use Rattle.byte_map.specs.RowLaws.{byte_chart_lawful}
+use Rattle.clock_core.specs.declared.setting.Setting.{Setting}
 use Rattle.clock_core.specs.Core.{CoreState, Accepted as Acceptance, loaded, load_refusal, unless_refused}
 use Rattle.rx5c_registers.specs.File.{FileState, registers, has}
 use Rattle.rx5c_registers.specs.Clock as clock
@@ -22,10 +23,9 @@ use Rattle.timekeeping.proofs.Loads.{loads_new}
 use Rattle.timekeeping.proofs.Theorem.{TrueToSights, the_law}
 use Rattle.rx5c348a_runs.specs.declared.call.WireCall.{WireCall}
 use Rattle.rx5c348a_runs.specs.declared.call.WireCall.TheVariants.{Load, Pulses, Pins, Look}
-use Rattle.rx5c348a_runs.specs.declared.call.WireAnswer.{WireAnswer}
-use Rattle.rx5c348a_runs.specs.declared.call.WireAnswer.TheVariants.{Refused, Registers}
+use Rattle.rx5c348a_runs.specs.declared.call.WireAnswer.TheVariants.{Registers}
 use Rattle.rx5c348a_runs.specs.Onlooker.{Notes, silent}
-use Rattle.rx5c348a_runs.specs.Calls.{acceptance, do_call, work_one, note, notes, load_noted, load_sight, pulses_sight, look_sight, call_sight, part_machine}
+use Rattle.rx5c348a_runs.specs.Calls.{Answered, acceptance, do_call, work_one, note, notes, load_noted, load_sight, pulses_sight, look_sight, call_sight, part_machine}
 use Rattle.rx5c348a_runs.specs.Start.{AtRest, Loaded, LoadedIsNew}
 use Rattle.rx5c348a_runs.proofs.Sound.{Sound, sound_code, sound_pulses, held_map}
 use Rattle.rx5c348a_runs.proofs.Tracking.{PhaseBy, Tracks, pins_step}
@@ -111,12 +111,12 @@ module _ (mode : HourMode) (e : Notes) (p : PartState) (t : Tracks e p) where
   load_acts moment weekday trim o None = tt
   load_acts moment weekday trim o (Some why) = λ _. refl
 
-  step_load : (moment weekday trim o : ℕ) → Step mode e p (Load moment weekday trim o)
+  step_load : (to : Setting) → Step mode e p (Load to)
   unfolding load_part
-  step_load moment weekday trim o =
+  step_load to =
       record {
-        tracks = load_tracked moment weekday trim o (load_refusal byte_chart moment weekday trim o) refl;
-        acts = load_acts moment weekday trim o (load_refusal byte_chart moment weekday trim o);
+        tracks = load_tracked to.moment to.weekday to.trim to.mode (load_refusal byte_chart to.moment to.weekday to.trim to.mode) refl;
+        acts = load_acts to.moment to.weekday to.trim to.mode (load_refusal byte_chart to.moment to.weekday to.trim to.mode);
       }
 
   row_is : (cell byte : ℕ) (inside : Bool) → ltb cell 7 ≡ inside → cond inside (Some (get_or (registers p.file) cell 0)) None ≡ Some byte → byte ≡ get_or p.file.core.map.cells cell 0
@@ -125,7 +125,7 @@ module _ (mode : HourMode) (e : Notes) (p : PartState) (t : Tracks e p) where
       here ∙ lower_register p.file cell t.sound.seven (ltb-true _ _ less)
   row_is cell byte false less h = cc
 
-  look_acts : (short : Bool) → Acts byte_chart mode (look_sight (cond short (Refused ShortBuffer) (Registers (registers p.file)))) p.file.core p.file.core
+  look_acts : (short : Bool) → Acts byte_chart mode (look_sight (cond short (Err ShortBuffer) (Ok (Registers (registers p.file))))) p.file.core p.file.core
   look_acts true = λ _. refl
   look_acts false = (refl, λ whole cell byte h. row_is cell byte (ltb cell 7) refl h)
 
@@ -133,7 +133,7 @@ module _ (mode : HourMode) (e : Notes) (p : PartState) (t : Tracks e p) where
   step_look room = record { tracks = t; acts = look_acts (ltb room 16) }
 
   step_call : (call : WireCall) → Step mode e p call
-  step_call (Load moment weekday trim o) = step_load moment weekday trim o
+  step_call (Load to) = step_load to
   step_call (Pulses n) = step_pulses n
   step_call (Pins levels) = step_pins levels
   step_call (Look room) = step_look room
@@ -145,7 +145,7 @@ tracked mode start t [] heard = t
 tracked mode start t (h ∷ log) heard =
     let p : PartState = state_after part_machine start log in
     let step = step_call mode (notes log) p (tracked mode start t log heard.1) h.call in
-    subst (λ (a : WireAnswer). Tracks (note h.call a (notes log)) (do_call p h.call).1) (sym heard.0) step.tracks
+    subst (λ (a : Answered). Tracks (note h.call a (notes log)) (do_call p h.call).1) (sym heard.0) step.tracks
 
 -- a part that starts as loaded does to its core what an onlooker makes of its calls
 pub part_true : (start : PartState) → Tracks silent start → (mode : HourMode) → TrueToSights part_machine byte_chart mode start
@@ -153,7 +153,7 @@ unfolding work_one
 part_true start t mode h log heard =
     let p : PartState = state_after part_machine start log in
     let step = step_call mode (notes log) p (tracked mode start t log heard.1) h.call in
-    subst (λ (a : WireAnswer). Acts byte_chart mode (call_sight mode (notes log) h.call a) p.file.core (do_call p h.call).1.file.core) (sym heard.0) step.acts
+    subst (λ (a : Answered). Acts byte_chart mode (call_sight mode (notes log) h.call a) p.file.core (do_call p h.call).1.file.core) (sym heard.0) step.acts
 
 -- at rest with a newly made core the notes begin
 pub begins : (start : PartState) → AtRest start → NewlyMade byte_chart start.file.core → Tracks silent start

@@ -2,7 +2,8 @@
 use Rattle.std.proofs.Common.{◌≡◌, ℕ, zero, suc, ◌+◌, ◌<◌, Bool, true, false, cond, ltb, List, [], ◌∷◌, length, get_or, set, Some, None, Option, sym, refl, ap, ◌∙◌, subst, arith}
 use lib.Bits.{and_le_r}
 use Rattle.register_map.specs.declared.hour_mode.HourMode.{HourMode}
-use Rattle.register_map.specs.Chart.{Shown, Showable, MapState, map_state, shown_by, put_byte, advanced, advanced_from}
+use Rattle.register_map.specs.declared.shown.Shown.{Shown}
+use Rattle.register_map.specs.Chart.{Showable, MapState, map_state, shown_by, put_byte, advanced, advanced_from}
 use Rattle.byte_map.specs.Cells.{byte_chart}
 use Rattle.byte_map.specs.RowLaws.{byte_chart_lawful}
 use Rattle.clock_core.specs.Core.{CoreState, at_position, waiting, with_map, begin_second, one_pulse, many_pulses}

@@ -14,81 +14,86 @@ use Rattle.timekeeping.specs.Logs.{Sight, Took, Wrote, Gave, Nothing, Heard, Mac
 use Rattle.rx5c348a_runs.specs.declared.call.WireCall.{WireCall}
 use Rattle.rx5c348a_runs.specs.declared.call.WireCall.TheVariants.{Load, Pulses, Pins, Look}
 use Rattle.rx5c348a_runs.specs.declared.call.WireAnswer.{WireAnswer}
-use Rattle.rx5c348a_runs.specs.declared.call.WireAnswer.TheVariants.{Accepted, Levels, Registers, Refused}
+use Rattle.rx5c348a_runs.specs.declared.call.WireAnswer.TheVariants.{Accepted, Levels, Registers}
 use Rattle.rx5c348a_runs.specs.Onlooker.{Notes, silent, noted, levels_sight}
 
-abbrev pub acceptance : Acceptance → WireAnswer
-acceptance (Ok _) = Accepted
-acceptance (Err why) = Refused why
+-- What a call answers: what an accepted one gives, or why it is refused.
+abbrev pub Answered : Type 0
+Answered = Result WireAnswer Refusal
 
-abbrev pub levels_answered : Result PinAnswer Refusal → WireAnswer
-levels_answered (Ok answer) = Levels answer
-levels_answered (Err why) = Refused why
+abbrev pub acceptance : Acceptance → Answered
+acceptance (Ok _) = Ok Accepted
+acceptance (Err why) = Err why
 
-abbrev pub registers_seen : PartState → ℕ → WireAnswer
-registers_seen p room = cond (nat_lt room 16) (Refused ShortBuffer) (Registers (registers p.file))
+abbrev pub levels_answered : Result PinAnswer Refusal → Answered
+levels_answered (Ok answer) = Ok (Levels answer)
+levels_answered (Err why) = Err why
+
+abbrev pub registers_seen : PartState → ℕ → Answered
+registers_seen p room = cond (nat_lt room 16) (Err ShortBuffer) (Ok (Registers (registers p.file)))
 
 -- One call: its answer, and the part after it.
-abbrev pub do_call : PartState → WireCall → WireAnswer × PartState
-do_call p (Load moment weekday trim mode) = (acceptance (load_part p moment weekday trim mode).0, (load_part p moment weekday trim mode).1)
+abbrev pub do_call : PartState → WireCall → Answered × PartState
+do_call p (Load to) =
+    (acceptance (load_part p to.moment to.weekday to.trim to.mode).0, (load_part p to.moment to.weekday to.trim to.mode).1)
 do_call p (Pulses n) = (acceptance (pulse_part p n).0, (pulse_part p n).1)
 do_call p (Pins levels) = (levels_answered (pins_part p levels).0, (pins_part p levels).1)
 do_call p (Look room) = (registers_seen p room, p)
 
 -- the same, as a list is worked call by call
-unfoldable pub work_one : PartState → WireCall → WireAnswer × PartState
+unfoldable pub work_one : PartState → WireCall → Answered × PartState
 work_one p call = do_call p call
 
 -- What an onlooker notes of a call and its answer: the levels of accepted pins calls; an accepted load lowers the pins.
-abbrev pub load_noted : WireAnswer → Notes → Notes
-load_noted Accepted e = silent
-load_noted (Levels _) e = e
-load_noted (Registers _) e = e
-load_noted (Refused _) e = e
+abbrev pub load_noted : Answered → Notes → Notes
+load_noted (Ok Accepted) e = silent
+load_noted (Ok (Levels _)) e = e
+load_noted (Ok (Registers _)) e = e
+load_noted (Err _) e = e
 
-abbrev pub pins_noted : Bool → Bool → ℕ → WireAnswer → Notes → Notes
-pins_noted ce sclk si Accepted e = e
-pins_noted ce sclk si (Levels answer) e = noted e ce sclk si (out_number answer.so)
-pins_noted ce sclk si (Registers _) e = e
-pins_noted ce sclk si (Refused _) e = e
+abbrev pub pins_noted : Bool → Bool → ℕ → Answered → Notes → Notes
+pins_noted ce sclk si (Ok Accepted) e = e
+pins_noted ce sclk si (Ok (Levels answer)) e = noted e ce sclk si (out_number answer.so)
+pins_noted ce sclk si (Ok (Registers _)) e = e
+pins_noted ce sclk si (Err _) e = e
 
-abbrev pub note : WireCall → WireAnswer → Notes → Notes
-note (Load _ _ _ _) answer e = load_noted answer e
+abbrev pub note : WireCall → Answered → Notes → Notes
+note (Load _) answer e = load_noted answer e
 note (Pulses _) answer e = e
 note (Pins levels) answer e = pins_noted (has levels 4) (has levels 2) (bit_and levels 1) answer e
 note (Look _) answer e = e
 
-unfoldable pub notes : List (Heard WireCall WireAnswer) → Notes
+unfoldable pub notes : List (Heard WireCall Answered) → Notes
 notes [] = silent
 notes (h ∷ log) = note h.call h.answer (notes log)
 
 -- What he makes of it. A refused call is nothing.
-abbrev pub load_sight : WireAnswer → Sight
-load_sight Accepted = Wrote
-load_sight (Levels _) = Nothing
-load_sight (Registers _) = Nothing
-load_sight (Refused _) = Nothing
+abbrev pub load_sight : Answered → Sight
+load_sight (Ok Accepted) = Wrote
+load_sight (Ok (Levels _)) = Nothing
+load_sight (Ok (Registers _)) = Nothing
+load_sight (Err _) = Nothing
 
-abbrev pub pulses_sight : ℕ → WireAnswer → Sight
-pulses_sight n Accepted = Took n
-pulses_sight n (Levels _) = Nothing
-pulses_sight n (Registers _) = Nothing
-pulses_sight n (Refused _) = Nothing
+abbrev pub pulses_sight : ℕ → Answered → Sight
+pulses_sight n (Ok Accepted) = Took n
+pulses_sight n (Ok (Levels _)) = Nothing
+pulses_sight n (Ok (Registers _)) = Nothing
+pulses_sight n (Err _) = Nothing
 
-abbrev pub pins_sight : HourMode → Notes → Bool → Bool → ℕ → WireAnswer → Sight
-pins_sight mode e ce sclk si Accepted = Nothing
-pins_sight mode e ce sclk si (Levels answer) = levels_sight mode e ce sclk si (out_number answer.so)
-pins_sight mode e ce sclk si (Registers _) = Nothing
-pins_sight mode e ce sclk si (Refused _) = Nothing
+abbrev pub pins_sight : HourMode → Notes → Bool → Bool → ℕ → Answered → Sight
+pins_sight mode e ce sclk si (Ok Accepted) = Nothing
+pins_sight mode e ce sclk si (Ok (Levels answer)) = levels_sight mode e ce sclk si (out_number answer.so)
+pins_sight mode e ce sclk si (Ok (Registers _)) = Nothing
+pins_sight mode e ce sclk si (Err _) = Nothing
 
-abbrev pub look_sight : WireAnswer → Sight
-look_sight Accepted = Nothing
-look_sight (Levels _) = Nothing
-look_sight (Registers row) = Gave (cells_of 7 row)
-look_sight (Refused _) = Nothing
+abbrev pub look_sight : Answered → Sight
+look_sight (Ok Accepted) = Nothing
+look_sight (Ok (Levels _)) = Nothing
+look_sight (Ok (Registers row)) = Gave (cells_of 7 row)
+look_sight (Err _) = Nothing
 
-abbrev pub call_sight : HourMode → Notes → WireCall → WireAnswer → Sight
-call_sight mode e (Load _ _ _ _) answer = load_sight answer
+abbrev pub call_sight : HourMode → Notes → WireCall → Answered → Sight
+call_sight mode e (Load _) answer = load_sight answer
 call_sight mode e (Pulses n) answer = pulses_sight n answer
 call_sight mode e (Pins levels) answer = pins_sight mode e (has levels 4) (has levels 2) (bit_and levels 1) answer
 call_sight mode e (Look _) answer = look_sight answer
@@ -98,7 +103,7 @@ abbrev pub part_machine : Machine
 part_machine =
     record {
       Call = WireCall;
-      Answer = WireAnswer;
+      Answer = Answered;
       State = PartState;
       step = work_one;
       core = λ p. p.file.core;

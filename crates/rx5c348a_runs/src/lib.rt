@@ -3,4 +3,4 @@
 
 pub mod call;
 pub mod example;
-pub mod work;
+pub mod start;

@@ -1,5 +1,7 @@
 // The two alarms: when they ring, and when not.
 use crate::host::*;
+use clock_core::cells::Registers;
+use clock_core::setting::Setting;
 use rx5c348a_whole::part::Rx5c348a;
 use std::process::Abort;
 use std::test::Fail;
@@ -44,6 +46,15 @@ fn flags_at(rings: bool, days: u8, weekday: u32) -> u8 {
     flag_if(rings && on_day, WAFG) | flag_if(rings, DAFG)
 }
 
+fn sunday_midnight(mode: u32) -> Setting {
+    Setting {
+        moment: SUNDAY_MIDNIGHT,
+        weekday: 0,
+        trim: 0,
+        mode,
+    }
+}
+
 // Runs a week from Sunday 00:00:00 on, minute by minute: the flags come up at the preset minute and at no other.
 fn run_a_week(rt: &impl Abort, part: &mut Rx5c348a, preset: u32, days: u8) -> Result<(), Fail> {
     for minute in 1..10_081u32 {
@@ -58,12 +69,18 @@ fn run_a_week(rt: &impl Abort, part: &mut Rx5c348a, preset: u32, days: u8) -> Re
     Ok(())
 }
 
+// A part at the beginning of that week, with both alarms set.
+fn part_with_alarms(mode: u32, minute: u8, hour: u8, days: u8) -> Result<Rx5c348a, Fail> {
+    let mut part = fresh_part();
+    part.load(sunday_midnight(mode))?;
+    set_alarms(&mut part, mode, minute, hour, days)?;
+    Ok(part)
+}
+
 #[test]
 fn presets_in_12_hour_mode(rt: HostRuntime) -> Result<(), Fail> {
     for (preset, days, minute, hour, _) in PRESETS {
-        let mut part = fresh_part();
-        load(&mut part, SUNDAY_MIDNIGHT, 0, 0, TWELVE)?;
-        set_alarms(&mut part, TWELVE, minute, hour, days)?;
+        let mut part = part_with_alarms(TWELVE, minute, hour, days)?;
         run_a_week(&rt, &mut part, preset, days)?;
     }
     Ok(())
@@ -72,9 +89,7 @@ fn presets_in_12_hour_mode(rt: HostRuntime) -> Result<(), Fail> {
 #[test]
 fn presets_in_24_hour_mode(rt: HostRuntime) -> Result<(), Fail> {
     for (preset, days, minute, _, hour) in PRESETS {
-        let mut part = fresh_part();
-        load(&mut part, SUNDAY_MIDNIGHT, 0, 0, TWENTY_FOUR)?;
-        set_alarms(&mut part, TWENTY_FOUR, minute, hour, days)?;
+        let mut part = part_with_alarms(TWENTY_FOUR, minute, hour, days)?;
         run_a_week(&rt, &mut part, preset, days)?;
     }
     Ok(())
@@ -194,9 +209,9 @@ fn no_moment_rings_nothing(rt: HostRuntime) -> Result<(), Fail> {
     assert_eq!(rt; drive(&mut part, 0)?, (OFF, 1));
     raise_ce(&mut part)?;
     run(&mut part, SECOND)?;
-    assert!(rt; part.registers.core.boundary_waits);
+    assert!(rt; part.registers.core.boundary_waits());
     assert_eq!(rt; lower_ce(&mut part)?, (OFF, 1));
-    assert!(rt; !part.registers.core.boundary_waits);
+    assert!(rt; !part.registers.core.boundary_waits());
     assert_eq!(rt; time_of(&part)?, [0x00, 0x00, 0x14, 0x05, 0x32, 0x87, 0x26]);
     Ok(())
 }

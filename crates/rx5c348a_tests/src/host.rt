@@ -1,4 +1,6 @@
 // A host on the four wires, bit by bit, and parts for it.
+use clock_core::cells::Registers;
+use clock_core::setting::Setting;
 use rx5c348a_whole::part::Rx5c348a;
 use std::process::Abort;
 use std::test::Fail;
@@ -15,7 +17,7 @@ pub(crate) const TWELVE: u32 = 0;
 
 pub(crate) const TWENTY_FOUR: u32 = 1;
 
-// Pin levels.
+// Pin levels and formats as the chip's makers have them, apart from the part's own.
 pub(crate) const CE: u64 = 4;
 
 pub(crate) const SCLK: u64 = 2;
@@ -23,7 +25,6 @@ pub(crate) const SCLK: u64 = 2;
 // SO when it is off.
 pub(crate) const OFF: u8 = 2;
 
-// Formats.
 pub(crate) const SINGLE_WRITE: u8 = 0x8;
 
 pub(crate) const BURST_WRITE: u8 = 0x0;
@@ -37,27 +38,15 @@ pub(crate) fn fresh_part() -> Rx5c348a {
     Rx5c348a::power_on()
 }
 
-pub(crate) fn load(
-    part: &mut Rx5c348a,
-    moment: u64,
-    weekday: u32,
-    trim: u32,
-    mode: u32,
-) -> Result<(), Fail> {
-    part.load(moment, weekday, trim, mode)?;
-    Ok(())
-}
-
 // A part that was loaded with a time of that day, in seconds since midnight, with no trim.
 pub(crate) fn part_at(time: u32, mode: u32) -> Result<Rx5c348a, Fail> {
     let mut part = fresh_part();
-    load(
-        &mut part,
-        MIDNIGHT + u64::from(time % 86_400),
-        FRIDAY,
-        0,
+    part.load(Setting {
+        moment: MIDNIGHT + u64::from(time % 86_400),
+        weekday: FRIDAY,
+        trim: 0,
         mode,
-    )?;
+    })?;
     Ok(part)
 }
 
@@ -79,7 +68,7 @@ pub(crate) fn on_friday(time: [u8; 3]) -> [u8; 7] {
 // New levels; answers SO and /INTR as numbers.
 pub(crate) fn drive(part: &mut Rx5c348a, levels: u64) -> Result<(u8, u8), Fail> {
     let answer = part.pins(levels)?;
-    Ok((answer.so.number(), answer.intr.number()))
+    Ok((u8::from(answer.so), u8::from(answer.intr)))
 }
 
 pub(crate) fn raise_ce(part: &mut Rx5c348a) -> Result<(), Fail> {
@@ -99,10 +88,15 @@ pub(crate) fn clock(part: &mut Rx5c348a, si: u8) -> Result<(u8, u8), Fail> {
     Ok((high, low))
 }
 
+// The bits of a byte, highest first.
+pub(crate) fn bits(byte: u8) -> [u8; 8] {
+    [7u8, 6, 5, 4, 3, 2, 1, 0].map(|place| (byte >> (place % 8)) & 1)
+}
+
 // A byte on SI, highest bit first.
 pub(crate) fn byte_in(part: &mut Rx5c348a, byte: u8) -> Result<(), Fail> {
-    for k in 0..8u8 {
-        clock(part, (byte >> (7 - k)) & 1)?;
+    for bit in bits(byte) {
+        clock(part, bit)?;
     }
     Ok(())
 }
@@ -144,7 +138,7 @@ pub(crate) fn read_register(rt: &impl Abort, part: &mut Rx5c348a, address: u8) -
 pub(crate) fn write_burst(part: &mut Rx5c348a, address: u8, bytes: &[u8]) -> Result<(), Fail> {
     raise_ce(part)?;
     header(part, address, BURST_WRITE)?;
-    for byte in bytes.iter() {
+    for byte in bytes {
         byte_in(part, *byte)?;
     }
     lower_ce(part)?;
@@ -152,6 +146,7 @@ pub(crate) fn write_burst(part: &mut Rx5c348a, address: u8, bytes: &[u8]) -> Res
 }
 
 // Levels, one digit each, and the SO that each answers, another digit; spaces stand between bytes.
+// Two rows, so that an edge and its SO stand in one column.
 pub(crate) fn follow(
     rt: &impl Abort,
     part: &mut Rx5c348a,
@@ -189,8 +184,8 @@ pub(crate) fn running_of(part: &Rx5c348a) -> Running {
     (
         core.position,
         core.second_length,
-        core.held,
-        core.boundary_waits,
+        core.is_held(),
+        core.boundary_waits(),
     )
 }
 
@@ -203,8 +198,8 @@ pub(crate) fn wires_of(part: &Rx5c348a) -> Wires {
         part.ce,
         part.sclk,
         part.awaits_header(),
-        answer.so.number(),
-        answer.intr.number(),
+        u8::from(answer.so),
+        u8::from(answer.intr),
     )
 }
 

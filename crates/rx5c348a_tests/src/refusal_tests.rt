@@ -1,23 +1,18 @@
 // What each call refuses, by number, and that a refused call changes nothing.
 use crate::host::*;
+use clock_core::cells::Registers;
+use clock_core::setting::Setting;
 use refusals::Refusal;
 use rx5c348a_whole::part::Rx5c348a;
 use std::test::Fail;
 
 // The number of a refusal, or 0.
-fn number(res: Result<(), Refusal>) -> u8 {
-    match res {
-        Ok(()) => 0,
-        Err(why) => why.number(),
-    }
+fn number<T: Drop>(answer: Result<T, Refusal>) -> u8 {
+    answer.map_or_else(u8::from, |_| 0)
 }
 
-// The number of the refusal of pin levels, or 0.
 fn refused_levels(part: &mut Rx5c348a, levels: u64) -> u8 {
-    match part.pins(levels) {
-        Ok(_) => 0,
-        Err(why) => why.number(),
-    }
+    number(part.pins(levels))
 }
 
 // CE and SCLK at each pair of levels, and every number up to 300 and some larger.
@@ -67,10 +62,10 @@ fn a_transfer_outlasts_refusals(rt: HostRuntime) -> Result<(), Fail> {
     let mut part = part_at(0, TWENTY_FOUR)?;
     raise_ce(&mut part)?;
     for byte in [0x88u8, 0x59] {
-        for k in 0..8u8 {
+        for bit in bits(byte) {
             assert_eq!(rt; refused_levels(&mut part, 12), 4);
             assert_eq!(rt; refused_levels(&mut part, SCLK + 1), 5);
-            clock(&mut part, (byte >> (7 - k)) & 1)?;
+            clock(&mut part, bit)?;
         }
     }
     lower_ce(&mut part)?;
@@ -97,7 +92,15 @@ fn load_refuses(rt: HostRuntime) -> Result<(), Fail> {
         raise_ce(&mut part)?;
         run(&mut part, 40_000)?;
         let before = all_of(&part)?;
-        assert_eq!(rt; number(part.load(moment, weekday, trim, mode)), refusal);
+        assert_eq!(rt;
+            number(part.load(Setting {
+                moment,
+                weekday,
+                trim,
+                mode
+            })),
+            refusal
+        );
         assert_eq!(rt; all_of(&part)? == before, refusal != 0);
     }
     Ok(())

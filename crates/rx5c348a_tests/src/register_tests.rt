@@ -1,5 +1,7 @@
 // The registers: unused bits, what writing some of them does besides, power-on, load and halt.
 use crate::host::*;
+use clock_core::cells::Registers;
+use clock_core::setting::Setting;
 use rx5c348a_whole::part::Rx5c348a;
 use std::process::Abort;
 use std::test::Fail;
@@ -59,13 +61,13 @@ fn every_byte_in_the_flags(rt: HostRuntime) -> Result<(), Fail> {
         write_register(&mut part, 0xF, byte)?;
         assert_eq!(rt; read_register(&rt, &mut part, 0xF)?, byte & 0xBF);
         assert_eq!(rt;
-            part.answer().intr.number(),
+            u8::from(part.answer().intr),
             if byte & 3 == 0 { 1 } else { 0 }
         );
         let mut clear = part_at(0, TWENTY_FOUR)?;
         write_register(&mut clear, 0xF, byte)?;
         assert_eq!(rt; read_register(&rt, &mut clear, 0xF)?, byte & 0xAC);
-        assert_eq!(rt; clear.answer().intr.number(), 1);
+        assert_eq!(rt; u8::from(clear.answer().intr), 1);
     }
     Ok(())
 }
@@ -168,7 +170,12 @@ fn load_drops_a_transfer(rt: HostRuntime) -> Result<(), Fail> {
     clock(&mut part, 0)?;
     clock(&mut part, 0)?;
     assert_eq!(rt; drive(&mut part, CE + SCLK)?, (1, 0));
-    load(&mut part, MIDNIGHT, FRIDAY, 7, TWELVE)?;
+    part.load(Setting {
+        moment: MIDNIGHT,
+        weekday: FRIDAY,
+        trim: 7,
+        mode: TWELVE,
+    })?;
     let loaded = [0, 0, 0x12, 5, 0x17, 0x87, 0x26, 7, 0, 0, 0, 0, 0, 0, 0, 0];
     assert_eq!(rt; registers_of(&part)?, loaded);
     assert_eq!(rt; running_of(&part), (0, 32_780, false, false));
@@ -181,7 +188,13 @@ fn load_drops_a_transfer(rt: HostRuntime) -> Result<(), Fail> {
 }
 
 fn refuses_to_load(part: &mut Rx5c348a, weekday: u32, trim: u32) -> bool {
-    part.load(MIDNIGHT, weekday, trim, TWELVE).is_err()
+    part.load(Setting {
+        moment: MIDNIGHT,
+        weekday,
+        trim,
+        mode: TWELVE,
+    })
+    .is_err()
 }
 
 // A refused load leaves the transfer under way: the byte goes on.
@@ -226,7 +239,7 @@ fn halt_with_ce_low(rt: HostRuntime) -> Result<(), Fail> {
         ]
     );
     assert_eq!(rt; running_of(&part), running);
-    assert_eq!(rt; part.answer().intr.number(), 1);
+    assert_eq!(rt; u8::from(part.answer().intr), 1);
     Ok(())
 }
 

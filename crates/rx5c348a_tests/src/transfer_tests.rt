@@ -90,16 +90,13 @@ fn what_is_written_is_read(rt: HostRuntime) -> Result<(), Fail> {
     let mut part = part_at(0, TWENTY_FOUR)?;
     write_burst(&mut part, 0, &bytes)?;
     assert_eq!(rt; registers_of(&part)?, bytes);
-    for address in 0..16u8 {
-        assert_eq!(rt;
-            read_register(&rt, &mut part, address)?,
-            bytes[address as usize]
-        );
+    for (address, byte) in (0..16u8).zip(bytes) {
+        assert_eq!(rt; read_register(&rt, &mut part, address)?, byte);
     }
     raise_ce(&mut part)?;
     header(&mut part, 0, BURST_READ)?;
-    for address in 0..16u8 {
-        assert_eq!(rt; byte_out(&rt, &mut part)?, bytes[address as usize]);
+    for byte in bytes {
+        assert_eq!(rt; byte_out(&rt, &mut part)?, byte);
     }
     assert_eq!(rt; lower_ce(&mut part)?, (OFF, 1));
     Ok(())

@@ -9,8 +9,8 @@ fn unheard(
     part: &mut rx5c348a_whole::part::Rx5c348a,
     byte: u8,
 ) -> Result<(), Fail> {
-    for k in 0..8u8 {
-        assert_eq!(rt; clock(part, (byte >> (7 - k)) & 1)?, (OFF, OFF));
+    for bit in bits(byte) {
+        assert_eq!(rt; clock(part, bit)?, (OFF, OFF));
     }
     Ok(())
 }
@@ -80,9 +80,10 @@ fn ce_falls_within_a_header_or_a_read(rt: HostRuntime) -> Result<(), Fail> {
         for high in [false, true] {
             let mut part = part_at(50_399, TWENTY_FOUR)?;
             raise_ce(&mut part)?;
-            for k in 0..clocks {
-                // EC reads Eh
-                clock(&mut part, if k < 8 { (0xEC >> (7 - k)) & 1 } else { 1 })?;
+            // EC reads Eh
+            let header = bits(0xEC);
+            for bit in header.iter().chain([1; 8].iter()).take(usize::from(clocks)) {
+                clock(&mut part, *bit)?;
             }
             let sclk = if high { SCLK } else { 0 };
             drive(&mut part, CE + sclk)?;
@@ -200,9 +201,10 @@ fn a_burst_write_goes_round_twice(rt: HostRuntime) -> Result<(), Fail> {
     let mut wanted = registers_of(&part)?;
     raise_ce(&mut part)?;
     header(&mut part, 0xE, BURST_WRITE)?;
-    for k in 0..40usize {
-        let byte = (k as u8).wrapping_mul(37);
-        let address = (14 + k) % 16;
+    for k in 0..40u8 {
+        let byte = k.wrapping_mul(37);
+        // by number: the address goes round sixteen
+        let address = usize::from((14 + k) % 16);
         byte_in(&mut part, byte)?;
         wanted[address] = byte & STORED[address];
         assert_eq!(rt; registers_of(&part)?, wanted);
@@ -223,8 +225,8 @@ fn a_burst_read_goes_round_twice(rt: HostRuntime) -> Result<(), Fail> {
     let registers = registers_of(&part)?;
     raise_ce(&mut part)?;
     header(&mut part, 0xE, BURST_READ)?;
-    for k in 0..40usize {
-        assert_eq!(rt; byte_out(&rt, &mut part)?, registers[(14 + k) % 16]);
+    for register in registers.iter().cycle().skip(14).take(40) {
+        assert_eq!(rt; byte_out(&rt, &mut part)?, *register);
     }
     assert_eq!(rt; lower_ce(&mut part)?, (OFF, 1));
     Ok(())
@@ -249,8 +251,8 @@ fn no_read_is_torn(rt: HostRuntime) -> Result<(), Fail> {
         raise_ce(&mut part)?;
         header(&mut part, 0, BURST_READ)?;
         let mut time = [0u8; 7];
-        for register in 0..7usize {
-            time[register] = byte_out(&rt, &mut part)?;
+        for cell in &mut time {
+            *cell = byte_out(&rt, &mut part)?;
             run(&mut part, 1)?;
         }
         assert_eq!(rt; time, time_after(pulses));

@@ -43,6 +43,7 @@ halting p = cond p.ce p (with_file p (clock.halted p.file))
 abbrev pub pulsing : PartState → ℕ → Accepted × PartState
 pulsing p count = ((clock.give_pulses p.file count).0, with_file p (clock.give_pulses p.file count).1)
 
+-- A look copies the sixteen registers.
 abbrev pub look_part : PartState → List ℕ → Accepted × List ℕ
 look_part p buffer = look_at p.file buffer
 

@@ -1,8 +1,11 @@
-// Power-on, load, halt, pulses and look.
+// Power-on, load, halt and pulses, and the registers that a look copies.
 ghost use Rattle.std.specs.Prelude.{◌≡◌};
-ghost use Rattle.rx5c348a_whole.specs.Part.{seen, power_on, load_part, halt_part, pulse_part, look_part, loading, halting, pulsing};
+ghost use Rattle.rx5c_registers.specs.File.{registers};
+ghost use Rattle.rx5c348a_whole.specs.Part.{seen, power_on, load_part, halt_part, pulse_part};
 
 use crate::part::Rx5c348a;
+use clock_core::cells::Registers;
+use clock_core::setting::Setting;
 use refusals::Refusal;
 use rx5c_registers::file::RegisterFile;
 use serial_transfer::transfer::Transfer;
@@ -21,22 +24,11 @@ impl Rx5c348a {
     }
 
     // Shows a moment and weekday; the rest of the registers is zero, the pins are low, and no transfer is under way.
-    pub fn load(&mut self, moment: u64, weekday: u32, trim: u32, mode: u32) -> Result<(), Refusal>
-        ensures { (result, seen self.new) ≡ load_part (seen self.old) moment weekday trim mode }
+    #[tactic(auto, unfolding(crate::specs::Part::load_part))]
+    pub fn load(&mut self, to: Setting) -> Result<(), Refusal>
+        ensures { (result, seen self.new) ≡ load_part (seen self.old) to.moment to.weekday to.trim to.mode }
     {
-        self.load_and_rest(moment, weekday, trim, mode)
-    }
-
-    fn load_and_rest(
-        &mut self,
-        moment: u64,
-        weekday: u32,
-        trim: u32,
-        mode: u32,
-    ) -> Result<(), Refusal>
-        ensures { (result, seen self.new) ≡ loading (seen self.old) moment weekday trim mode }
-    {
-        self.registers.load(moment, weekday, trim, mode)?;
+        self.registers.load(to)?;
         self.ce = false;
         self.sclk = false;
         self.transfer.end();
@@ -44,36 +36,27 @@ impl Rx5c348a {
     }
 
     // The oscillator stops. With CE high nothing happens.
+    #[tactic(auto, unfolding(crate::specs::Part::halt_part))]
     pub fn halt(&mut self)
         ensures { seen self.new ≡ halt_part (seen self.old) }
-    {
-        self.halt_unselected();
-    }
-
-    fn halt_unselected(&mut self)
-        ensures { seen self.new ≡ halting (seen self.old) }
     {
         if !self.ce {
             self.registers.halt();
         }
     }
 
+    #[tactic(auto, unfolding(crate::specs::Part::pulse_part))]
     pub fn pulses(&mut self, count: u64) -> Result<(), Refusal>
         ensures { (result, seen self.new) ≡ pulse_part (seen self.old) count }
     {
-        self.take_pulses(count)
-    }
-
-    fn take_pulses(&mut self, count: u64) -> Result<(), Refusal>
-        ensures { (result, seen self.new) ≡ pulsing (seen self.old) count }
-    {
         self.registers.pulses(count)
     }
+}
 
-    // Copies registers 0 to Fh to the front of a buffer.
-    pub fn look(&self, buffer: &mut [u8]) -> Result<(), Refusal>
-        ensures { (result, buffer.new) ≡ look_part (seen self.now) buffer.old }
-    {
-        self.registers.look(buffer)
+impl Registers for Rx5c348a {
+    ghost row = { λ p. registers (seen p).file };
+
+    fn registers(&self) -> [u8; 16] {
+        self.registers.registers()
     }
 }

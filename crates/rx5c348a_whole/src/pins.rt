@@ -1,31 +1,31 @@
 // The four wires and /INTR.
 ghost use Rattle.std.specs.Prelude.{◌≡◌};
-ghost use Rattle.rx5c348a_whole.specs.Pins.{answer_in, level_number, awaits_header, ce_risen, ce_fallen, sclk_risen, sclk_fallen, driven, levels_taken, pins_part};
+ghost use Rattle.rx5c348a_whole.specs.Pins.{answer_in, level_number, awaits_header, ce_risen, ce_fallen, sclk_risen, sclk_fallen, driven, pins_part};
 ghost use Rattle.rx5c348a_whole.specs.Part.{seen};
 
 use crate::part::Rx5c348a;
 use refusals::Refusal;
 use serial_transfer::phase::SerialOut;
 
-// Pin levels are the sum of these.
-const CE: u64 = 4;
+// Pin levels are the sum of these. They come as a number, so that one that is no levels is refused by number.
+pub const CE: u64 = 4;
 
-const SCLK: u64 = 2;
+pub const SCLK: u64 = 2;
 
-const SI: u64 = 1;
+pub const SI: u64 = 1;
 
 // The level of a line that is always driven.
-#[derive(Clone, Copy)]
+#[derive(Clone, Copy, PartialEq, Eq, Debug)]
 pub enum Level {
     Low,
     High,
 }
 
-impl Level {
-    pub fn number(self) -> u8
-        ensures { result ≡ level_number self }
-    {
-        match self {
+impl From<Level> for u8 {
+    ghost from_gives = { λ level number. number ≡ level_number level };
+
+    fn from(level: Level) -> u8 {
+        match level {
             Level::Low => 0,
             Level::High => 1,
         }
@@ -33,7 +33,7 @@ impl Level {
 }
 
 // What a part answers to pin levels.
-#[derive(Clone, Copy)]
+#[derive(Clone, Copy, PartialEq, Eq, Debug)]
 pub struct PinAnswer {
     pub so: SerialOut,
     pub intr: Level,
@@ -78,15 +78,15 @@ impl Rx5c348a {
         self.transfer.end();
     }
 
-    // In read data one more bit goes on SO; the first of eight rises fixes the byte.
+    // In read data one more bit goes on SO; where no byte is due any will do; the first of eight rises fixes the byte.
     fn sclk_rises(&mut self)
         ensures { seen self.new ≡ sclk_risen (seen self.old) }
     {
         self.sclk = true;
-        let due_byte = match self.transfer.due() {
-            Some(address) => self.registers.read(address),
-            None => 0,
-        };
+        let due_byte = self
+            .transfer
+            .due()
+            .map_or(0, |address| self.registers.read(address));
         self.transfer.rise(due_byte);
     }
 
@@ -120,14 +120,9 @@ impl Rx5c348a {
     }
 
     // New levels on CE, SCLK and SI.
+    #[tactic(auto, unfolding(crate::specs::Pins::pins_part))]
     pub fn pins(&mut self, levels: u64) -> Result<PinAnswer, Refusal>
         ensures { (result, seen self.new) ≡ pins_part (seen self.old) levels }
-    {
-        self.take_levels(levels)
-    }
-
-    fn take_levels(&mut self, levels: u64) -> Result<PinAnswer, Refusal>
-        ensures { (result, seen self.new) ≡ levels_taken (seen self.old) levels }
     {
         if levels > CE + SCLK + SI {
             return Err(Refusal::NoSuchLevels);

@@ -1,7 +1,8 @@
 -- An alarm rings exactly when its minute comes up on one of its days.
 use Rattle.std.proofs.Common.{◌≡◌, ℕ, zero, suc, ◌+◌, ◌%◌, ◌<◌, Bool, true, false, cond, not, ◌&&◌, ◌||◌, eqb, ltb, get_or, Some, None, Ok, Err, Option, sym, refl, ap, ◌∙◌, subst, mod-lt, arith, eqb-true}
 use Rattle.refusals.specs.declared.Refusal.TheVariants.{NotHeld}
-use Rattle.register_map.specs.Chart.{Shown, Showable, shown_by, second_after, weekday_after, advanced, advanced_from}
+use Rattle.register_map.specs.declared.shown.Shown.{Shown}
+use Rattle.register_map.specs.Chart.{Showable, shown_by, second_after, weekday_after, advanced, advanced_from}
 use Rattle.byte_map.specs.Cells.{byte_chart}
 use Rattle.byte_map.specs.RowLaws.{byte_chart_lawful}
 use Rattle.clock_core.specs.Core.{CoreState, at_position, waiting, with_map, begin_second, cross_boundary, one_pulse, many_pulses, released as core_released, release_core, Accepted}

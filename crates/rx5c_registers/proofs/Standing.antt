@@ -4,7 +4,8 @@ use lib.Bits.{bit_and, bit_or, and_zero_r, and_le_r}
 use borrow.Author.Tests.{eqb-false}
 use Rattle.rx5c_registers.specs.declared.alarm.AlarmRow.{AlarmRow}
 use Rattle.rx5c_registers.specs.Alarms.{blank_row}
-use Rattle.rx5c_registers.specs.File.{FileState, with_alarms, bit_if, mode_bit, hour_mode_in, upper_registers, registers, masked, has, rows_enabled, flag_byte, written}
+use Rattle.register_map.specs.Modes.{mode_bit}
+use Rattle.rx5c_registers.specs.File.{FileState, with_alarms, bit_if, hour_mode_in, upper_registers, registers, masked, has, rows_enabled, flag_byte, written}
 use Rattle.rx5c_registers.specs.Standing.{StandsIn}
 
 -- a rule of bytes, computed for all of them
@@ -49,11 +50,11 @@ set_back (a ∷ b ∷ c ∷ d ∷ f ∷ g ∷ h ∷ []) rest k x e = refl
 set_back (a ∷ b ∷ c ∷ d ∷ f ∷ g ∷ h ∷ i ∷ more) rest k x e = absurd (omega arith)
 
 -- Eh reads back what was written to it
-control_back : (byte : ℕ) → byte < 256 → bit_or (bit_or (bit_if (has (bit_and byte 0xF7) 0x80) 0x80) (bit_if (has (bit_and byte 0xF7) 0x40) 0x40)) (bit_or (mode_bit (hour_mode_in (bit_and byte 0xF7))) (bit_and (bit_and byte 0xF7) 0x17)) ≡ bit_and byte 0xF7
+control_back : (byte : ℕ) → byte < 256 → bit_or (bit_or (bit_if (has (bit_and byte 0xF7) 0x80) 0x80) (bit_if (has (bit_and byte 0xF7) 0x40) 0x40)) (bit_or (mode_bit 0x20 (hour_mode_in (bit_and byte 0xF7))) (bit_and (bit_and byte 0xF7) 0x17)) ≡ bit_and byte 0xF7
 unfolding every
 control_back byte h =
     eqb-true _ _
-    (holds (λ b. eqb (bit_or (bit_or (bit_if (has (bit_and b 0xF7) 0x80) 0x80) (bit_if (has (bit_and b 0xF7) 0x40) 0x40)) (bit_or (mode_bit (hour_mode_in (bit_and b 0xF7))) (bit_and (bit_and b 0xF7) 0x17))) (bit_and b 0xF7)) 256 byte refl h)
+    (holds (λ b. eqb (bit_or (bit_or (bit_if (has (bit_and b 0xF7) 0x80) 0x80) (bit_if (has (bit_and b 0xF7) 0x40) 0x40)) (bit_or (mode_bit 0x20 (hour_mode_in (bit_and b 0xF7))) (bit_and (bit_and b 0xF7) 0x17))) (bit_and b 0xF7)) 256 byte refl h)
 
 -- Fh reads back what was written to it, as far as its flags stood
 abbrev flags_of : Bool → Bool → Bool → ℕ → ℕ

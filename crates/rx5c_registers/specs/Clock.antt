@@ -2,7 +2,8 @@
 use Rattle.std.specs.Prelude.{ℕ, zero, suc, ◌+◌, ◌-◌, Bool, true, false, cond, replicate, Some, None, Ok, Err, Option, ◌==◌, nat_lt, slice_index}
 use Rattle.refusals.specs.declared.Refusal.TheVariants.{TooManyPulses}
 use Rattle.register_map.specs.declared.hour_mode.HourMode.TheVariants.{Twelve}
-use Rattle.register_map.specs.Chart.{Shown, map_state, shown_by, second_of}
+use Rattle.register_map.specs.declared.shown.Shown.{Shown}
+use Rattle.register_map.specs.Chart.{map_state, shown_by, second_of}
 use Rattle.byte_map.specs.Cells.{byte_chart}
 use Rattle.clock_core.specs.Core.{CoreState, Accepted, most_pulses, at_position, pulses_left, cross_boundary, idle_core, load_core, hold_core, release_core, set_trim, set_core_mode}
 use Rattle.rx5c_registers.specs.Alarms.{rung}

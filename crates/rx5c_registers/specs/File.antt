@@ -1,12 +1,14 @@
 -- The register file: what its sixteen registers read, and what a write to each does.
 use Rattle.std.specs.Prelude.{ℕ, Bool, true, cond, not, ◌&&◌, List, [], ◌∷◌, ◌++◌, ◌==◌, bit_and, bit_or, nat_lt, slice_index, slice_index_or, slice_set}
 use Rattle.register_map.specs.declared.hour_mode.HourMode.{HourMode}
-use Rattle.register_map.specs.declared.hour_mode.HourMode.TheVariants.{Twelve, TwentyFour}
+use Rattle.register_map.specs.Modes.{mode_if, mode_bit}
 use Rattle.register_map.specs.Chart.{map_state, put_byte}
 use Rattle.byte_map.specs.Cells.{byte_chart}
-use Rattle.byte_map.specs.declared.map.ByteMap.{ByteMap}
+use Rattle.byte_map.specs.declared.cells.ByteCells.{ByteCells}
+use Rattle.civil_map.specs.declared.map.CivilMap.{CivilMap}
 use Rattle.clock_core.specs.Core.{CoreState, Accepted, with_map, set_trim, set_core_mode, restart_second, copied_front}
 use Rattle.clock_core.specs.declared.clock.ClockCore.{ClockCore}
+use Rattle.clock_core.specs.View.{core_by}
 use Rattle.rx5c_registers.specs.declared.alarm.AlarmRow.{AlarmRow}
 use Rattle.rx5c_registers.specs.declared.file.RegisterFile.{RegisterFile}
 use Rattle.rx5c_registers.specs.Alarms.{blank_row, every_day, enabled_to, flag_written, with_minute, with_hour, with_days}
@@ -19,16 +21,8 @@ pub record FileState : Type 0 where
   pub control : ℕ
   pub flags : ℕ
 
-abbrev pub core_seen : ClockCore ByteMap → CoreState
-core_seen s =
-    record {
-      map = map_state s.map.cells s.map.mode;
-      trim = s.trim;
-      position = s.position;
-      second = s.second_length;
-      held = s.held;
-      waits = s.boundary_waits;
-    }
+abbrev pub core_seen : ClockCore (CivilMap ByteCells) → CoreState
+core_seen s = core_by (λ m. map_state m.cells.bytes m.mode) s
 
 abbrev pub file_seen : RegisterFile → FileState
 file_seen f =
@@ -65,15 +59,10 @@ blank_alarms = blank_row 0 ∷ blank_row every_day ∷ []
 abbrev pub bit_if : Bool → ℕ → ℕ
 bit_if on mask = cond on mask 0
 
--- the hour mode stands in bit 5 of Eh
-abbrev pub mode_bit : HourMode → ℕ
-mode_bit Twelve = 0
-mode_bit TwentyFour = 0x20
-
 -- Eh: WALE 80h, DALE 40h, hour mode 20h, and stored CLEN2 10h and CT2 to CT0.
 abbrev pub control_byte : FileState → ℕ
 control_byte f =
-    bit_or (bit_or (bit_if (alarm f 0).enabled 0x80) (bit_if (alarm f 1).enabled 0x40)) (bit_or (mode_bit f.core.map.mode) f.control)
+    bit_or (bit_or (bit_if (alarm f 0).enabled 0x80) (bit_if (alarm f 1).enabled 0x40)) (bit_or (mode_bit 0x20 f.core.map.mode) f.control)
 
 -- Fh: XSTP 10h, WAFG 02h, DAFG 01h, and stored VDSL 80h, SCRATCH1 20h, CLEN1 08h and CTFG 04h.
 abbrev pub flag_byte : FileState → ℕ
@@ -118,8 +107,9 @@ abbrev pub cell_written : FileState → ℕ → ℕ → FileState
 cell_written f cell byte =
     with_core f (cond (cell == 0) (restart_second byte_chart (cell_put f.core cell byte)) (cell_put f.core cell byte))
 
+-- the hour mode stands in bit 5 of Eh
 abbrev pub hour_mode_in : ℕ → HourMode
-hour_mode_in byte = cond (has byte 0x20) TwentyFour Twelve
+hour_mode_in byte = mode_if (has byte 0x20)
 
 -- WALE and DALE: a row that is disabled loses its flag.
 abbrev pub rows_enabled : FileState → Bool → Bool → FileState
@@ -172,6 +162,7 @@ put_in f address byte =
 abbrev pub written : FileState → ℕ → ℕ → FileState
 written f address byte = put_in f address (masked address byte)
 
+-- A look copies the sixteen registers.
 abbrev pub look_at : FileState → List ℕ → Accepted × List ℕ
 look_at f buffer = copied_front (registers f) buffer
 

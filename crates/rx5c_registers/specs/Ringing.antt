@@ -1,6 +1,7 @@
 -- When an alarm rings: exactly when its minute comes up on one of its days.
 use Rattle.std.specs.Prelude.{◌≡◌, ℕ, suc, ◌<◌, true, false, Some, slice_index}
-use Rattle.register_map.specs.Chart.{Shown, shown_by, second_of, second_after}
+use Rattle.register_map.specs.declared.shown.Shown.{Shown}
+use Rattle.register_map.specs.Chart.{shown_by, second_of, second_after}
 use Rattle.byte_map.specs.Cells.{byte_chart}
 use Rattle.clock_core.specs.Core.{CoreState, many_pulses}
 use Rattle.rx5c_registers.specs.declared.alarm.AlarmRow.{AlarmRow}

@@ -8,9 +8,8 @@ pub struct AlarmRow {
     pub hour: u8,
     // bit 0 for weekday 0, up to bit 6
     pub days: u8,
-    // WALE or DALE
+    // WALE or DALE, and WAFG or DAFG: bits of two registers, each read and written by itself
     pub enabled: bool,
-    // WAFG or DAFG
     pub flag: bool,
 }
 

@@ -8,6 +8,7 @@ use crate::alarm::{AlarmRow, EVERY_DAY};
 use crate::file::RegisterFile;
 use byte_map::map::ByteMap;
 use clock_core::clock::ClockCore;
+use clock_core::setting::Setting;
 use refusals::Refusal;
 use register_map::hour_mode::HourMode;
 use register_map::map::RegisterMap;
@@ -40,10 +41,10 @@ impl RegisterFile {
     }
 
     // Shows a moment and weekday; the rest of the registers is zero.
-    pub fn load(&mut self, moment: u64, weekday: u32, trim: u32, mode: u32) -> Result<(), Refusal>
-        ensures { (result, file_seen self.new) ≡ load (file_seen self.old) moment weekday trim mode }
+    pub fn load(&mut self, to: Setting) -> Result<(), Refusal>
+        ensures { (result, file_seen self.new) ≡ load (file_seen self.old) to.moment to.weekday to.trim to.mode }
     {
-        self.core.load(moment, weekday, trim, mode)?;
+        self.core.load(to)?;
         self.alarms = [blank_row(0), blank_row(EVERY_DAY)];
         self.oscillator_stopped = false;
         self.stored_control = 0;

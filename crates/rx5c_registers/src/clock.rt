@@ -5,27 +5,25 @@ ghost use Rattle.rx5c_registers.specs.Clock.{after_advance, crossed, run_to_boun
 ghost use Rattle.rx5c_registers.specs.Ringing.{AlarmsRing, AlarmsRingAtRelease};
 
 use crate::file::RegisterFile;
-use crate::reading::{ALARM_D, ALARM_W};
+use clock_core::boundary::MOST_PULSES;
 use refusals::Refusal;
 use register_map::map::RegisterMap;
-
-// The most pulses of one call.
-const MOST_PULSES: u64 = 1_048_576;
 
 impl RegisterFile {
     // Each row looks at the minute, hour and weekday.
     fn ring_rows(&mut self, minute: u8, hour: u8, weekday: u8)
         ensures { file_seen self.new ≡ rows_rung (file_seen self.old) minute hour weekday }
     {
-        self.alarms[ALARM_W].ring(minute, hour, weekday);
-        self.alarms[ALARM_D].ring(minute, hour, weekday);
+        for row in &mut self.alarms {
+            row.ring(minute, hour, weekday);
+        }
     }
 
     // The cells show a minute that has just begun.
     fn begin_minute(&mut self)
         ensures { file_seen self.new ≡ minute_begun (file_seen self.old) }
     {
-        let [_, minute, hour, weekday, ..] = self.core.map.cells;
+        let [_, minute, hour, weekday, ..] = self.core.map.cells.bytes;
         self.ring_rows(minute, hour, weekday);
     }
 
@@ -44,13 +42,13 @@ impl RegisterFile {
     {
         let crosses = count >= self.core.pulses_to_boundary();
         let left = self.core.run_to_boundary(count);
-        if crosses && !self.core.held {
+        if crosses && !self.core.is_held() {
             self.after_advance();
         }
         left
     }
 
-    // Takes pulses, one boundary after the other.
+    // Takes pulses, one boundary after the other. The core's loop again: to share it, a trait of five members would stand for three lines.
     fn take_pulses(&mut self, count: u32)
         ensures value { file_seen self.new ≡ pulses_taken count (file_seen self.old) }
         ensures alarms { AlarmsRing count (file_seen self.old) (file_seen self.new) }
@@ -79,11 +77,11 @@ impl RegisterFile {
         let _ = self.core.hold();
     }
 
-    // A waiting boundary is applied, and may ring.
+    // A waiting boundary is applied, and may ring. Apart, so that the proof of the law does not open it.
     fn let_go(&mut self)
         ensures { file_seen self.new ≡ released (file_seen self.old) }
     {
-        let waits = self.core.boundary_waits;
+        let waits = self.core.boundary_waits();
         let _ = self.core.release();
         if waits {
             self.after_advance();

@@ -1,13 +1,13 @@
 // What the sixteen registers read.
-ghost use Rattle.std.specs.Prelude.{◌≡◌, ◌-◌, ◌≤◌, slice_index};
-ghost use Rattle.rx5c_registers.specs.File.{file_seen, registers, upper_registers, control_byte, flag_byte, bit_if, look_at, interrupts, mode_bit};
+ghost use Rattle.std.specs.Prelude.{◌≡◌, ◌-◌, ◌<◌, ◌≤◌, slice_index};
+ghost use Rattle.rx5c_registers.specs.File.{file_seen, registers, upper_registers, control_byte, flag_byte, bit_if, interrupts};
 
 use crate::file::RegisterFile;
-use clock_core::cells::copy_front;
-use refusals::Refusal;
-use register_map::hour_mode::HourMode;
+use clock_core::cells::Registers;
 use register_map::map::RegisterMap;
+use std::array;
 
+// Rows by number: they are walked as well as named.
 pub(crate) const ALARM_W: usize = 0;
 
 pub(crate) const ALARM_D: usize = 1;
@@ -26,68 +26,23 @@ pub(crate) const WAFG: u8 = 0x02;
 
 pub(crate) const DAFG: u8 = 0x01;
 
-fn bit_if(on: bool, mask: u8) -> u8
-    ensures { result ≡ bit_if on mask }
-{
-    if on { mask } else { 0 }
-}
-
-fn mode_bit(mode: HourMode) -> u8
-    ensures { result ≡ mode_bit mode }
-{
-    match mode {
-        HourMode::Twelve => 0,
-        HourMode::TwentyFour => TWENTY_FOUR_HOURS,
-    }
-}
-
 impl RegisterFile {
     // Register Eh.
     fn control(&self) -> u8
         ensures { result ≡ control_byte (file_seen self.now) }
     {
-        let enables = bit_if(self.alarms[ALARM_W].enabled, WALE)
-            | bit_if(self.alarms[ALARM_D].enabled, DALE);
-        enables | (mode_bit(self.core.map.hour_mode()) | self.stored_control)
+        let [weekly, daily] = self.alarms;
+        let enables = u8::from(weekly.enabled) * WALE | u8::from(daily.enabled) * DALE;
+        enables | (self.core.map.hour_mode().bit(TWENTY_FOUR_HOURS) | self.stored_control)
     }
 
     // Register Fh.
     fn flags(&self) -> u8
         ensures { result ≡ flag_byte (file_seen self.now) }
     {
-        let alarms = bit_if(self.alarms[ALARM_W].flag, WAFG)
-            | bit_if(self.alarms[ALARM_D].flag, DAFG);
-        alarms | (bit_if(self.oscillator_stopped, XSTP) | self.stored_flags)
-    }
-
-    // Registers 0 to Fh.
-    fn registers(&self) -> [u8; 16]
-        ensures { result ≡ registers (file_seen self.now) }
-    {
-        let control = self.control();
-        let flags = self.flags();
-        let [second, minute, hour, weekday, day, month, year] = self.core.map.cells;
-        let trim = self.core.trim;
-        let weekly = self.alarms[ALARM_W];
-        let daily = self.alarms[ALARM_D];
-        [
-            second,
-            minute,
-            hour,
-            weekday,
-            day,
-            month,
-            year,
-            trim,
-            weekly.minute,
-            weekly.hour,
-            weekly.days,
-            daily.minute,
-            daily.hour,
-            0,
-            control,
-            flags,
-        ]
+        let [weekly, daily] = self.alarms;
+        let alarms = u8::from(weekly.flag) * WAFG | u8::from(daily.flag) * DAFG;
+        alarms | (u8::from(self.oscillator_stopped) * XSTP | self.stored_flags)
     }
 
     // Registers 7 to Fh.
@@ -120,17 +75,23 @@ impl RegisterFile {
         }
     }
 
-    // Copies registers 0 to Fh to the front of a buffer.
-    pub fn look(&self, buffer: &mut [u8]) -> Result<(), Refusal>
-        ensures { (result, buffer.new) ≡ look_at (file_seen self.now) buffer.old }
-    {
-        copy_front(&self.registers(), buffer)
-    }
-
     // An alarm's flag is up: /INTR is pulled low.
     pub fn interrupts(&self) -> bool
         ensures { result ≡ interrupts (file_seen self.now) }
     {
-        self.alarms[ALARM_W].flag || self.alarms[ALARM_D].flag
+        self.alarms.iter().any(|row| row.flag)
+    }
+}
+
+impl Registers for RegisterFile {
+    ghost row = { λ f. registers (file_seen f) };
+
+    fn registers(&self) -> [u8; 16] {
+        array::from_fn(
+            |address| -> u8
+                requires { address < 16 }
+                ensures { result ≡ slice_index (registers (file_seen self.entry.now)) address }
+            { self.read(address as u8) },
+        )
     }
 }

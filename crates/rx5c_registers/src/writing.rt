@@ -1,4 +1,4 @@
-// What a byte written to each register does.
+// What a byte written to each register does. A write names register and byte, and a pair of them would say no more.
 ghost use Rattle.std.specs.Prelude.{◌≡◌, ◌<◌};
 ghost use Rattle.rx5c_registers.specs.File.{file_seen, has, hour_mode_in, cell_written, alarm_written, rows_enabled, row_flags_written, control_written, flags_written, put_in, written};
 ghost use Rattle.rx5c_registers.specs.Standing.{StandsIn};
@@ -23,16 +23,6 @@ fn has(byte: u8, mask: u8) -> bool
     ensures { result ≡ has byte mask }
 {
     byte & mask != 0
-}
-
-fn hour_mode_in(byte: u8) -> HourMode
-    ensures { result ≡ hour_mode_in byte }
-{
-    if has(byte, TWENTY_FOUR_HOURS) {
-        HourMode::TwentyFour
-    } else {
-        HourMode::Twelve
-    }
 }
 
 impl RegisterFile {
@@ -61,7 +51,7 @@ impl RegisterFile {
         }
     }
 
-    // WALE and DALE.
+    // WALE and DALE. Row by row: a loop would have to pair rows with bits first.
     pub(crate) fn enable_rows(&mut self, weekly: bool, daily: bool)
         ensures { file_seen self.new ≡ rows_enabled (file_seen self.old) weekly daily }
     {
@@ -82,7 +72,8 @@ impl RegisterFile {
         ensures { file_seen self.new ≡ control_written (file_seen self.old) byte }
     {
         self.enable_rows(has(byte, WALE), has(byte, DALE));
-        self.core.set_hour_mode(hour_mode_in(byte));
+        self.core
+            .set_hour_mode(HourMode::from_bit(has(byte, TWENTY_FOUR_HOURS)));
         self.stored_control = byte & STORED_CONTROL;
     }
 
@@ -111,7 +102,7 @@ impl RegisterFile {
         }
     }
 
-    // Clears the unused bits first; beyond Fh there is no register.
+    // Clears the unused bits first; beyond Fh there is no register. Apart, so that the proof of the law does not open it.
     fn write_register(&mut self, address: u8, byte: u8)
         ensures { file_seen self.new ≡ written (file_seen self.old) address byte }
     {

@@ -28,11 +28,12 @@ fn landings_of(bytes: &[u8; 6]) -> [Option<Landing>; 6] {
 fn levels_of_byte(transfer: &mut Transfer, due_byte: u8) -> [u8; 16] {
     let mut levels = [0; 16];
     let mut byte = due_byte;
+    // by number: two edges a bit, in one row
     for k in 0..8 {
         transfer.rise(byte);
-        levels[2 * k] = transfer.out().number();
+        levels[2 * k] = u8::from(transfer.out());
         transfer.fall(1);
-        levels[2 * k + 1] = transfer.out().number();
+        levels[2 * k + 1] = u8::from(transfer.out());
         byte = byte.wrapping_add(1);
     }
     levels
@@ -46,6 +47,7 @@ fn asked_by(header: u8) -> (Option<u8>, Option<Landing>, bool) {
     (due, landing, transfer.awaits_header())
 }
 
+// By number, since all sixteen formats are tried.
 fn asked_of(address: u8, format: u8) -> (Option<u8>, Option<Landing>, bool) {
     match format {
         8 => (None, landed(address, 0x5A), true),
@@ -114,7 +116,7 @@ fn bytes_read_back(rt: HostRuntime) {
 #[test]
 fn out_over_a_single_read(rt: HostRuntime) {
     let mut transfer = headed(0x5C);
-    assert_eq!(rt; transfer.out().number(), 2);
+    assert_eq!(rt; u8::from(transfer.out()), 2);
     let levels = levels_of_byte(&mut transfer, 0xA5);
     assert_eq!(rt; levels, [1, 1, 0, 0, 1, 1, 0, 0, 0, 0, 1, 1, 0, 0, 1, 2]);
 }
@@ -127,7 +129,7 @@ fn out_over_a_burst_read(rt: HostRuntime) {
     let second = levels_of_byte(&mut transfer, 0xC2);
     assert_eq!(rt; second, [1, 1, 1, 1, 0, 0, 0, 0, 0, 0, 0, 0, 1, 1, 0, 0]);
     transfer.end();
-    assert_eq!(rt; transfer.out().number(), 2);
+    assert_eq!(rt; u8::from(transfer.out()), 2);
 }
 
 // Seven bits of a byte are dropped, and the next header starts afresh.

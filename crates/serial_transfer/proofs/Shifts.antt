@@ -13,10 +13,6 @@ shift_take gathered level =
     ap₂ bit_or shifted (and_mask level 1) ∙ or_shifted (gathered % 128) 1 (level % 2) (omega arith)
     ∙ sym (ap (λ (n : ℕ). n % 256) split ∙ mod-mul-add (gathered / 128) 256 _ small)
 
--- a shift down and a mask
-pub shift_bit : (byte place : ℕ) → bit_and (byte / 2 ^ place) 1 ≡ bit_at byte place
-shift_bit byte place = and_mask (byte / 2 ^ place) 1
-
 -- the bits of a byte taken one after another: the front of the byte grows by one
 pub taken_more : (byte place : ℕ) → byte < 256 → taken (byte / 2 ^ suc place) (bit_at byte place) ≡ byte / 2 ^ place
 taken_more byte place h =

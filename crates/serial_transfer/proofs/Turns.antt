@@ -32,10 +32,6 @@ unfolding bytes_in
 in_length [] p = refl
 in_length (b ∷ bytes) p = ap suc (in_length bytes (byte_in b p).1)
 
-pub bytes_in_none : (p : Phase) (buffer : List (Option Landing)) → (buffer ≡ (bytes_in [] p).0 ++ buffer) × (p ≡ (bytes_in [] p).1)
-unfolding bytes_in
-bytes_in_none p buffer = (refl, refl)
-
 pub bytes_in_more : (bytes : List ℕ) (i : ℕ) (p q r : Phase) (buffer held : List (Option Landing)) (x : Option Landing) → i < length bytes → i < length buffer → held ≡ (bytes_in (take i bytes) p).0 ++ drop i buffer → q ≡ (bytes_in (take i bytes) p).1 → (x, r) ≡ byte_in (get_or bytes i 0) q → (set held i x ≡ (bytes_in (take (i + 1) bytes) p).0 ++ drop (i + 1) buffer) × (r ≡ (bytes_in (take (i + 1) bytes) p).1)
 bytes_in_more bytes i p q r buffer held x h k e f g =
     let step : (x, r) ≡ byte_in (get_or bytes i 0) (bytes_in (take i bytes) p).1 = g ∙ ap (byte_in (get_or bytes i 0)) f in
@@ -129,10 +125,6 @@ out_length : (registers : List ℕ) (n : ℕ) (p : Phase) → length (registers_
 unfolding registers_out
 out_length registers zero p = refl
 out_length registers (suc n) p = ap suc (out_length registers n (register_out registers p).1)
-
-pub registers_out_none : (registers : List ℕ) (p : Phase) (buffer : List (Option ℕ)) → (buffer ≡ (registers_out registers 0 p).0 ++ buffer) × (p ≡ (registers_out registers 0 p).1)
-unfolding registers_out
-registers_out_none registers p buffer = (refl, refl)
 
 pub registers_out_more : (registers : List ℕ) (i : ℕ) (p q r : Phase) (buffer held : List (Option ℕ)) (x : Option ℕ) → i < length buffer → held ≡ (registers_out registers i p).0 ++ drop i buffer → q ≡ (registers_out registers i p).1 → (x, r) ≡ register_out registers q → (set held i x ≡ (registers_out registers (i + 1) p).0 ++ drop (i + 1) buffer) × (r ≡ (registers_out registers (i + 1) p).1)
 registers_out_more registers i p q r buffer held x k e f g =

@@ -1,5 +1,5 @@
 -- Eight clocks make a byte.
-use Rattle.std.proofs.Common.{◌≡◌, ℕ, zero, suc, ◌+◌, ◌*◌, ◌/◌, ◌%◌, ◌^◌, ◌<◌, Bool, List, [], ◌∷◌, map, Some, None, Option, refl, ap, ◌∙◌, ap₂, div-one, arith}
+use Rattle.std.proofs.Common.{◌≡◌, ℕ, zero, suc, ◌+◌, ◌*◌, ◌/◌, ◌%◌, ◌^◌, ◌<◌, Bool, List, [], ◌∷◌, map, Some, None, Option, refl, ap, ◌∙◌, div-one, arith}
 use Rattle.std.proofs.lemmas.Nat.{div-mul-add, mod-mul-add}
 use Rattle.serial_transfer.specs.declared.phase.SerialOut.{SerialOut}
 use Rattle.serial_transfer.specs.declared.phase.Landing.{Landing}
@@ -52,7 +52,7 @@ unfolding levels_out low_bits
 data_out due address burst byte out = refl
 
 -- a header that is given as its two halves
-halves : (byte address format : ℕ) → format < 16 → byte ≡ 16 * address + format → headed byte ≡ data_at address (format_coded format)
+pub halves : (byte address format : ℕ) → format < 16 → byte ≡ 16 * address + format → headed byte ≡ data_at address (format_coded format)
 halves byte address format h e =
     let split : byte ≡ address * 16 + format = omega arith in
     let high : byte / 16 ≡ address = ap (λ (n : ℕ). n / 16) split ∙ div-mul-add address 16 format h in
@@ -64,9 +64,8 @@ header_landed byte address format h few is =
     header_in byte ∙ ap (λ (n : ℕ). (None, headed n)) (gathers_all byte h) ∙ ap (λ (p : Phase). (None, p)) (halves byte address format few is)
 
 -- eight bits in
-pub comes_in : (byte count : ℕ) (before : Phase) (after : Option Landing × Phase) → byte < 256 → after ≡ levels_in (low_bits byte count) (None, before) → count ≡ 8 → ComesIn byte before after
-comes_in byte count before after h e eight =
-    let whole : after ≡ byte_in byte before = e ∙ ap (λ (n : ℕ). levels_in (low_bits byte n) (None, before)) eight in
+pub comes_in : (byte : ℕ) (before : Phase) (after : Option Landing × Phase) → byte < 256 → after ≡ byte_in byte before → ComesIn byte before after
+comes_in byte before after h whole =
     record {
       header = λ address format few is fresh.
           whole ∙ ap (byte_in byte) fresh ∙ header_landed byte address format h few is;
@@ -91,25 +90,23 @@ spells gathered byte zero = refl
 spells gathered byte (suc n) =
     ap (λ (bit : ℕ). spelt (taken gathered bit) (map level_out (low_bits byte n))) (out_level (byte / 2 ^ n)) ∙ spells (taken gathered (bit_at byte n)) byte n
 
+-- the levels of a byte's bits spell the byte
+pub bits_spelt : (byte : ℕ) → byte < 256 → spelt 0 (map level_out (bits_of byte)) ≡ byte
+bits_spelt byte h = spells 0 byte 8 ∙ gathers_all byte h
+
 -- eight bits out
 byte_spelt : (due address : ℕ) (burst : Bool) (byte : ℕ) (out : SerialOut) → due < 256 → spelt 0 (levels_out 8 due (Read address burst 0 byte out)).0 ≡ due
-byte_spelt due address burst byte out h =
-    ap (λ (s : List SerialOut × Phase). spelt 0 s.0) (data_out due address burst byte out) ∙ spells 0 due 8 ∙ gathers_all due h
+byte_spelt due address burst byte out h = ap (λ (s : List SerialOut × Phase). spelt 0 s.0) (data_out due address burst byte out) ∙ bits_spelt due h
 
 pub byte_given : (due address : ℕ) (burst : Bool) (byte : ℕ) (out : SerialOut) → due < 256 → byte_out due (Read address burst 0 byte out) ≡ (Some due, after_read address burst (level_out (bit_at due 0)))
 byte_given due address burst byte out h =
     ap (λ (n : ℕ). (Some n, (levels_out 8 due (Read address burst 0 byte out)).1)) (byte_spelt due address burst byte out h)
     ∙ ap (λ (s : List SerialOut × Phase). (Some due, s.1)) (data_out due address burst byte out)
 
-pub goes_out : (due count given : ℕ) (before after : Phase) → due < 256 → given ≡ spelt 0 (levels_out count due before).0 → after ≡ (levels_out count due before).1 → count ≡ 8 → GoesOut due before (Some given, after)
-goes_out due count given before after h e f eight =
-    let spelling : given ≡ spelt 0 (levels_out 8 due before).0 = e ∙ ap (λ (n : ℕ). spelt 0 (levels_out n due before).0) eight in
-    let phase : after ≡ (levels_out 8 due before).1 = f ∙ ap (λ (n : ℕ). (levels_out n due before).1) eight in
+pub goes_out : (due : ℕ) (before : Phase) (after : Option ℕ × Phase) → due < 256 → after ≡ byte_out due before → GoesOut due before after
+goes_out due before after h e =
     record {
       levels = λ address burst byte out reads.
           ap (λ (p : Phase). (levels_out 8 due p).0) reads ∙ ap (λ (s : List SerialOut × Phase). s.0) (data_out due address burst byte out);
-      gives = λ address burst byte out reads.
-          ap₂ (λ (n : ℕ) (p : Phase). (Some n, p)) spelling phase
-          ∙ ap (λ (p : Phase). (Some (spelt 0 (levels_out 8 due p).0), (levels_out 8 due p).1)) reads
-          ∙ byte_given due address burst byte out h;
+      gives = λ address burst byte out reads. e ∙ ap (byte_out due) reads ∙ byte_given due address burst byte out h;
     }

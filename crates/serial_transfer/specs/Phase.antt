@@ -1,5 +1,5 @@
 -- Where a transfer stands, as two numbers that every transfer bounds: the bits of the byte under way, and the address.
-use Rattle.std.specs.Prelude.{ℕ, ◌<◌}
+use Rattle.std.specs.Prelude.{ℕ}
 use Rattle.serial_transfer.specs.declared.phase.Phase.{Phase}
 use Rattle.serial_transfer.specs.declared.phase.Phase.TheVariants.{Idle, Header, Write, Read, Deaf}
 
@@ -18,7 +18,3 @@ address_of (Header bits gathered) = 0
 address_of (Write address burst bits gathered) = address
 address_of (Read address burst bits byte out) = address
 address_of Deaf = 0
-
--- both bounds: of every phase that a transfer can be in
-abbrev pub Lawful : Phase → Type 0
-Lawful phase = (bits_through phase < 8) × (address_of phase < 16)

@@ -19,6 +19,13 @@ format_coded code =
     cond (code == 8) (Some SingleWrite)
     (cond (code == 0) (Some BurstWrite) (cond (code == 12) (Some SingleRead) (cond (code == 4) (Some BurstRead) None)))
 
+-- the code of a format
+abbrev pub code_of : Format → ℕ
+code_of SingleWrite = 8
+code_of BurstWrite = 0
+code_of SingleRead = 12
+code_of BurstRead = 4
+
 -- The data that a format begins at an address; without a known format the part is deaf.
 abbrev pub data_at : ℕ → Option Format → Phase
 data_at address (Some SingleWrite) = Write address false 0 0

@@ -3,14 +3,15 @@ ghost use Rattle.std.specs.Prelude.{◌≡◌, ◌%◌, ◌<◌};
 ghost use Rattle.serial_transfer.specs.Levels.{taken, bit_at};
 
 // One bit more, behind those that are in; `level` counts by its lowest bit.
-pub(crate) fn taken_in(gathered: u8, level: u8) -> u8
+#[tactic(auto, using(crate::proofs::Shifts::shift_take))]
+pub fn taken_in(gathered: u8, level: u8) -> u8
     ensures { result ≡ taken gathered level }
 {
     (gathered << 1) | (level & 1)
 }
 
 // A bit of a byte: 7 is the highest, 0 the lowest.
-pub(crate) fn bit_of(byte: u8, place: u8) -> u8
+pub fn bit_of(byte: u8, place: u8) -> u8
     requires { place < 8 }
     ensures { result ≡ bit_at byte place }
 {

@@ -1,11 +1,11 @@
 // The edges of CE and SCLK.
 ghost use Rattle.std.specs.Prelude.{◌≡◌, ◌<◌, IfSome};
 ghost use Rattle.serial_transfer.specs.declared.phase.Phase.TheVariants.{Idle};
-ghost use Rattle.serial_transfer.specs.Phase.{Lawful};
-ghost use Rattle.serial_transfer.specs.Rules.{fresh_header, out_in, awaits, due_in, risen, fallen, header_taken, write_taken, read_given};
+ghost use Rattle.serial_transfer.specs.Rules.{fresh_header, out_in, awaits, due_in, risen, fallen, header_taken};
 
 use crate::bits::{bit_of, taken_in};
-use crate::header::{FRESH_HEADER, phase_after_header, phase_after_read, phase_after_write};
+use crate::data::DataByte;
+use crate::header::{FRESH_HEADER, transfer_after_header};
 use crate::phase::{Landing, Phase, SerialOut};
 use crate::transfer::Transfer;
 
@@ -21,7 +21,7 @@ impl Transfer {
     pub fn begin(&mut self)
         ensures { self.new.phase ≡ fresh_header }
     {
-        self.phase = FRESH_HEADER;
+        *self = FRESH_HEADER;
     }
 
     // CE falls: an unfinished byte is dropped, and SO is off.
@@ -45,10 +45,7 @@ impl Transfer {
     pub fn awaits_header(&self) -> bool
         ensures { result ≡ awaits self.now.phase }
     {
-        match self.phase {
-            Phase::Header { bits, .. } => bits == 0,
-            _ => false,
-        }
+        matches!(self.phase, Phase::Header { bits: 0, .. })
     }
 
     // The address of the byte that the next rise fixes, if it fixes one.
@@ -90,7 +87,8 @@ impl Transfer {
         }
     }
 
-    // SCLK falls: a bit is taken from SI, the lowest bit of `si`, or given. Answers what has landed.
+    // SCLK falls: a bit is taken from SI, or given. Answers what has landed.
+    // SI is a number, of which the lowest bit counts: a truth value would take less than callers may give.
     pub fn fall(&mut self, si: u8) -> Option<Landing>
         ensures value { (result, self.new.phase) ≡ fallen self.old.phase si }
         ensures within { IfSome result (λ l. l.address < 16) }
@@ -98,7 +96,7 @@ impl Transfer {
         match self.phase {
             Phase::Idle | Phase::Deaf => None,
             Phase::Header { bits, gathered } => {
-                self.phase = with_header_bit(bits, taken_in(gathered, si));
+                *self = with_header_bit(bits, taken_in(gathered, si));
                 None
             }
             Phase::Write {
@@ -107,9 +105,13 @@ impl Transfer {
                 bits,
                 gathered,
             } => {
-                let gathered = taken_in(gathered, si);
-                let (landing, phase) = with_written_bit(address, burst, bits, gathered);
-                self.phase = phase;
+                let data = DataByte {
+                    address,
+                    burst,
+                    bits,
+                };
+                let (landing, after) = data.with_written_bit(taken_in(gathered, si));
+                *self = after;
                 landing
             }
             Phase::Read {
@@ -119,7 +121,12 @@ impl Transfer {
                 byte,
                 out,
             } => {
-                self.phase = with_bit_given(address, burst, bits, byte, out);
+                let data = DataByte {
+                    address,
+                    burst,
+                    bits,
+                };
+                *self = data.with_bit_given(byte, out);
                 None
             }
         }
@@ -127,62 +134,18 @@ impl Transfer {
 }
 
 // One more bit of a header is in: the eighth makes it whole.
-fn with_header_bit(bits: u8, gathered: u8) -> Phase
+fn with_header_bit(bits: u8, gathered: u8) -> Transfer
     requires { bits < 8 }
-    ensures value { result ≡ header_taken bits gathered }
-    ensures lawful { Lawful result }
+    ensures { result.phase ≡ header_taken bits gathered }
 {
     if bits == 7 {
-        phase_after_header(gathered)
+        transfer_after_header(gathered)
     } else {
-        Phase::Header {
-            bits: bits + 1,
-            gathered,
-        }
-    }
-}
-
-// One more bit of a written byte is in: the eighth lands it.
-fn with_written_bit(address: u8, burst: bool, bits: u8, gathered: u8) -> (Option<Landing>, Phase)
-    requires { (address < 16) × (bits < 8) }
-    ensures value { result ≡ write_taken address burst bits gathered }
-    ensures lawful { Lawful result.1 }
-    ensures within { IfSome result.0 (λ l. l.address < 16) }
-{
-    if bits == 7 {
-        let landing = Landing {
-            address,
-            byte: gathered,
-        };
-        (Some(landing), phase_after_write(address, burst))
-    } else {
-        (
-            None,
-            Phase::Write {
-                address,
-                burst,
+        Transfer {
+            phase: Phase::Header {
                 bits: bits + 1,
                 gathered,
             },
-        )
-    }
-}
-
-// One more bit of a read byte is given out.
-fn with_bit_given(address: u8, burst: bool, bits: u8, byte: u8, out: SerialOut) -> Phase
-    requires { (address < 16) × (bits < 8) }
-    ensures value { result ≡ read_given address burst bits byte out }
-    ensures lawful { Lawful result }
-{
-    if bits == 7 {
-        phase_after_read(address, burst, out)
-    } else {
-        Phase::Read {
-            address,
-            burst,
-            bits: bits + 1,
-            byte,
-            out,
         }
     }
 }

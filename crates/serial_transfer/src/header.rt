@@ -1,20 +1,36 @@
-// What a header asks for, and what follows a whole byte.
+// What a header asks for, and what follows a whole header.
 ghost use Rattle.std.specs.Prelude.{◌≡◌, ◌<◌, Some};
-ghost use Rattle.serial_transfer.specs.declared.phase.Phase.TheVariants.{Write, Read};
-ghost use Rattle.serial_transfer.specs.Phase.{Lawful};
-ghost use Rattle.serial_transfer.specs.Rules.{format_coded, data_at, headed, next_address, after_write, after_read};
+ghost use Rattle.serial_transfer.specs.Rules.{code_of, format_coded, data_at, headed};
 
 use crate::bits::low_half;
+use crate::data::DataByte;
 use crate::phase::{Format, Phase, SerialOut};
+use crate::transfer::Transfer;
 
 // A header of which no bit is in yet.
-pub(crate) const FRESH_HEADER: Phase = Phase::Header {
-    bits: 0,
-    gathered: 0,
+pub(crate) const FRESH_HEADER: Transfer = Transfer {
+    phase: Phase::Header {
+        bits: 0,
+        gathered: 0,
+    },
 };
 
+// The low four bits of the header that asks for it.
+impl From<Format> for u8 {
+    ghost from_gives = { λ format code. code ≡ code_of format };
+
+    fn from(format: Format) -> u8 {
+        match format {
+            Format::SingleWrite => 0x8,
+            Format::BurstWrite => 0x0,
+            Format::SingleRead => 0xC,
+            Format::BurstRead => 0x4,
+        }
+    }
+}
+
 impl Format {
-    // By the low four bits of a header.
+    // By the low four bits of a header. An unknown one is no error: the part is deaf then.
     pub fn coded(code: u8) -> Option<Format>
         ensures { result ≡ format_coded code }
     {
@@ -28,90 +44,29 @@ impl Format {
     }
 
     // The data that it begins at an address.
-    fn begun_at(self, address: u8) -> Phase
+    fn begun_at(self, address: u8) -> Transfer
         requires { address < 16 }
-        ensures value { result ≡ data_at address (Some self) }
-        ensures lawful { Lawful result }
+        ensures { result.phase ≡ data_at address (Some self) }
     {
+        let burst = matches!(self, Format::BurstWrite | Format::BurstRead);
+        let data = DataByte {
+            address,
+            burst,
+            bits: 0,
+        };
         match self {
-            Format::SingleWrite => write_at(address, false),
-            Format::BurstWrite => write_at(address, true),
-            Format::SingleRead => read_at(address, false, SerialOut::Off),
-            Format::BurstRead => read_at(address, true, SerialOut::Off),
+            Format::SingleWrite | Format::BurstWrite => data.written(0),
+            Format::SingleRead | Format::BurstRead => data.read(0, SerialOut::Off),
         }
     }
 }
 
-// A written byte of which no bit is in yet.
-fn write_at(address: u8, burst: bool) -> Phase
-    requires { address < 16 }
-    ensures value { result ≡ Write address burst 0 0 }
-    ensures lawful { Lawful result }
-{
-    Phase::Write {
-        address,
-        burst,
-        bits: 0,
-        gathered: 0,
-    }
-}
-
-// A byte to read, not fixed yet, with SO as it is.
-fn read_at(address: u8, burst: bool, out: SerialOut) -> Phase
-    requires { address < 16 }
-    ensures value { result ≡ Read address burst 0 0 out }
-    ensures lawful { Lawful result }
-{
-    Phase::Read {
-        address,
-        burst,
-        bits: 0,
-        byte: 0,
-        out,
-    }
-}
-
 // After a whole header: its high four bits are the address, its low four the format.
-pub(crate) fn phase_after_header(header: u8) -> Phase
-    ensures value { result ≡ headed header }
-    ensures lawful { Lawful result }
+pub(crate) fn transfer_after_header(header: u8) -> Transfer
+    ensures { result.phase ≡ headed header }
 {
     match Format::coded(low_half(header)) {
         Some(format) => format.begun_at(header >> 4),
-        None => Phase::Deaf,
-    }
-}
-
-// The address after this one, 0 after 15.
-fn address_after(address: u8) -> u8
-    requires { address < 16 }
-    ensures { result ≡ next_address address }
-{
-    low_half(address + 1)
-}
-
-// A burst goes on at the next address; otherwise a header follows.
-pub(crate) fn phase_after_write(address: u8, burst: bool) -> Phase
-    requires { address < 16 }
-    ensures value { result ≡ after_write address burst }
-    ensures lawful { Lawful result }
-{
-    if burst {
-        write_at(address_after(address), burst)
-    } else {
-        FRESH_HEADER
-    }
-}
-
-// A burst goes on at the next address, SO as it is; otherwise a header follows.
-pub(crate) fn phase_after_read(address: u8, burst: bool, out: SerialOut) -> Phase
-    requires { address < 16 }
-    ensures value { result ≡ after_read address burst out }
-    ensures lawful { Lawful result }
-{
-    if burst {
-        read_at(address_after(address), burst, out)
-    } else {
-        FRESH_HEADER
+        None => Transfer { phase: Phase::Deaf },
     }
 }

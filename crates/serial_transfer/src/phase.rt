@@ -2,7 +2,7 @@
 ghost use Rattle.std.specs.Prelude.{◌≡◌};
 ghost use Rattle.serial_transfer.specs.Levels.{level_out, out_number};
 
-// What stands on SO. Read as a number, off is 2.
+// What stands on SO. Not an Option of a level: off is a state of the wire, with a number of its own.
 #[derive(Clone, Copy, PartialEq, Eq, Debug)]
 pub enum SerialOut {
     Low,
@@ -11,7 +11,7 @@ pub enum SerialOut {
 }
 
 impl SerialOut {
-    // A bit put on SO.
+    // A bit put on SO. It is a number, as bits come from `bit_of`.
     pub(crate) fn of_bit(bit: u8) -> SerialOut
         ensures { result ≡ level_out bit }
     {
@@ -21,11 +21,14 @@ impl SerialOut {
             SerialOut::High
         }
     }
+}
 
-    pub fn number(self) -> u8
-        ensures { result ≡ out_number self }
-    {
-        match self {
+// Off is 2.
+impl From<SerialOut> for u8 {
+    ghost from_gives = { λ out number. number ≡ out_number out };
+
+    fn from(out: SerialOut) -> u8 {
+        match out {
             SerialOut::Low => 0,
             SerialOut::High => 1,
             SerialOut::Off => 2,
@@ -34,7 +37,7 @@ impl SerialOut {
 }
 
 // The four transfers that a header can ask for.
-#[derive(Clone, Copy)]
+#[derive(Clone, Copy, PartialEq, Eq, Debug)]
 pub enum Format {
     SingleWrite,
     BurstWrite,
@@ -42,7 +45,7 @@ pub enum Format {
     BurstRead,
 }
 
-// A byte that was written, and the register that it is for.
+// A byte that was written, and the register that it is for, below 16. A type that said so would ask it of whoever makes a landing.
 #[derive(Clone, Copy, PartialEq, Eq, Debug)]
 pub struct Landing {
     pub address: u8,
@@ -50,7 +53,7 @@ pub struct Landing {
 }
 
 // Where a transfer stands. `bits` counts the falls of SCLK that the byte under way has had.
-#[derive(Clone, Copy)]
+#[derive(Clone, Copy, PartialEq, Eq, Debug)]
 pub enum Phase {
     // CE is low
     Idle,

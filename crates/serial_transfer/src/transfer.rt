@@ -4,7 +4,7 @@ ghost use Rattle.serial_transfer.specs.Phase.{bits_through, address_of};
 
 use crate::phase::Phase;
 
-#[derive(Clone, Copy)]
+#[derive(Clone, Copy, PartialEq, Eq, Debug)]
 pub struct Transfer {
     pub phase: Phase,
     ghost byte_unfinished: { bits_through phase < 8 },

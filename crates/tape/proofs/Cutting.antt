@@ -7,8 +7,8 @@ use Rattle.tape.specs.declared.record.Kind.{Kind}
 use Rattle.tape.specs.declared.record.Kind.TheVariants.{LoadMoment, GivePulses, PrintRegisters}
 use Rattle.tape.specs.declared.record.Record.{Record}
 use Rattle.tape.specs.declared.record.TapeRefusal.{TapeRefusal}
-use Rattle.tape.specs.Records.{NumberRead, RecordRead, low_group, groups_after, read_number, read_record, with_kind, with_number}
-use Rattle.tape.specs.Written.{groups_of, record_bytes, number_in, tape_of, WrittenAs, Ends}
+use Rattle.tape.specs.Records.{NumberRead, RecordRead, low_group, groups_after, read_number, read_record, record_of, with_kind, with_number}
+use Rattle.tape.specs.Written.{groups_of, number_bytes, record_bytes, number_in, tape_of, WrittenAs, Ends}
 use Rattle.tape.proofs.Coding.{one_group, several_groups}
 use Rattle.tape.proofs.Reading.{record_shortens}
 
@@ -67,21 +67,17 @@ record_stands [] are = tt
 record_stands (byte ∷ bytes) are =
     let P : Result Kind TapeRefusal → Type 0 = λ k. IfOk (with_kind k bytes) (λ read. RecordStands (byte ∷ bytes) read.0 read.1) in
     let number = number_stands 4 0 bytes refl (λ i. are (suc i)) in
-    cond_both (eqb byte 0x4D) _ _ P (λ is. loads (read_number bytes) (eqb-true byte 0x4D is) number)
-    (λ _. cond_both (eqb byte 0x50) _ _ P (λ is. pulses (read_number bytes) (eqb-true byte 0x50 is) number)
-    (λ _. cond_both (eqb byte 0x4C) _ _ P (λ is. prints (read_number bytes) (eqb-true byte 0x4C is) number) (λ _. tt)))
+    cond_both (eqb byte 0x4D) _ _ P (λ is. by_kind LoadMoment 0x4D (λ n. refl) (λ n. refl) (read_number bytes) (eqb-true byte 0x4D is) number)
+    (λ _. cond_both (eqb byte 0x50) _ _ P (λ is. by_kind GivePulses 0x50 (λ n. refl) (λ n. refl) (read_number bytes) (eqb-true byte 0x50 is) number)
+    (λ _. cond_both (eqb byte 0x4C) _ _ P (λ is. by_kind PrintRegisters 0x4C (λ n. refl) (λ n. refl) (read_number bytes) (eqb-true byte 0x4C is) number) (λ _. tt)))
   where
-    loads : (x : NumberRead) → byte ≡ 0x4D → IfOk x (λ read. NumberStands 4 0 bytes read.0 read.1) → IfOk (with_number LoadMoment x) (λ read. RecordStands (byte ∷ bytes) read.0 read.1)
-    loads (Ok read) is h = record { whole = λ i. is i ∷ h.whole i; fits = h.fits }
-    loads (Err e) is h = tt
-
-    pulses : (x : NumberRead) → byte ≡ 0x50 → IfOk x (λ read. NumberStands 4 0 bytes read.0 read.1) → IfOk (with_number GivePulses x) (λ read. RecordStands (byte ∷ bytes) read.0 read.1)
-    pulses (Ok read) is h = record { whole = λ i. is i ∷ h.whole i; fits = h.fits }
-    pulses (Err e) is h = tt
-
-    prints : (x : NumberRead) → byte ≡ 0x4C → IfOk x (λ read. NumberStands 4 0 bytes read.0 read.1) → IfOk (with_number PrintRegisters x) (λ read. RecordStands (byte ∷ bytes) read.0 read.1)
-    prints (Ok read) is h = record { whole = λ i. is i ∷ h.whole i; fits = h.fits }
-    prints (Err e) is h = tt
+    by_kind : (kind : Kind) (letter : ℕ) → ((n : ℕ) → record_bytes (record_of kind n) ≡ letter ∷ number_bytes n) → ((n : ℕ) → number_in (record_of kind n) ≡ n) → (x : NumberRead) → byte ≡ letter → IfOk x (λ read. NumberStands 4 0 bytes read.0 read.1) → IfOk (with_number kind x) (λ read. RecordStands (byte ∷ bytes) read.0 read.1)
+    by_kind kind letter written holds (Ok read) is h =
+        record {
+          whole = (λ i. is i ∷ h.whole i) ∙ ap (λ l. l ++ read.1) (sym (written read.0));
+          fits = omega (arith, holds read.0, h.fits);
+        }
+    by_kind kind letter written holds (Err e) is h = tt
 
 abbrev pub Cut : List ℕ → Type 0
 Cut bytes = (records : List Record) × (rest : List ℕ) × (how : Result (Unit {0}) TapeRefusal) × WrittenAs bytes records rest × Ends rest how

@@ -1,12 +1,11 @@
 -- How a number is gathered group by group.
-use Rattle.std.proofs.Common.{◌≡◌, ℕ, ◌+◌, ◌-◌, ◌*◌, ◌%◌, ◌^◌, ◌<◌, ◌≤◌, false, ◌&&◌, eqb, ltb, List, [], ◌∷◌, length, get_or, take, drop, IfOk, Ok, Err, sym, refl, ap, ◌∙◌, ⊎_elim, mod-eq_of_lt, mul_assoc, mul_comm, one-mul, pow-suc, zero-add, mul-add, add-one, arith}
-use native.Mathlib.Nat.{pow-le-pow_right}
+use Rattle.std.proofs.Common.{◌≡◌, ℕ, ◌+◌, ◌*◌, ◌%◌, ◌^◌, ◌<◌, ◌≤◌, false, ◌&&◌, eqb, ltb, List, [], ◌∷◌, length, get_or, drop, IfOk, Ok, Err, sym, refl, ap, ◌∙◌, ⊎_elim, mod-eq_of_lt, mul_assoc, mul_comm, one-mul, zero-add, mul-add, arith}
 use Rattle.std.proofs.lemmas.Bool.{cond-true, cond-false, cond_both, lt-ltb, le-ltb, eq-eqb, ne_eqb, and_from, and_left, and_right, cases_eq}
-use Rattle.std.proofs.lemmas.Nat.{mul-le}
-use Rattle.std.proofs.lemmas.List.{nil_from_length}
-use Rattle.std.proofs.lemmas.Slice.{first_rest}
-use Rattle.refusals.specs.declared.Refusal.TheVariants.{TapeEnds, BadNumber}
-use Rattle.tape.specs.Records.{NumberRead, low_group, groups_after, by_tape}
+use Rattle.std.proofs.lemmas.Nat.{mul-le, pow-add}
+use Rattle.std.proofs.lemmas.List.{at_drop_more}
+use Rattle.std.proofs.Math.ListN.{drop_of_length-le}
+use Rattle.tape.specs.declared.record.TapeRefusal.TheVariants.{TapeEnds, BadNumber}
+use Rattle.tape.specs.Records.{NumberRead, low_group, groups_after}
 
 -- a number so far, with those groups above it that are still to come
 abbrev pub above : ℕ → ℕ → NumberRead → NumberRead
@@ -36,12 +35,12 @@ pub last_group : (before group : ℕ) (rest : List ℕ) → group < 128 → (gro
 unfolding groups_after
 last_group before group rest last alone = cond-true _ _ _ (lt-ltb group 128 last) ∙ cond-false _ _ _ (alone_passes before group alone)
 
-pub padded_group : (before group : ℕ) (rest : List ℕ) → group ≡ 0 → 0 < before → groups_after before (group ∷ rest) ≡ Err (by_tape BadNumber)
+pub padded_group : (before group : ℕ) (rest : List ℕ) → group ≡ 0 → 0 < before → groups_after before (group ∷ rest) ≡ Err BadNumber
 unfolding groups_after
 padded_group before group rest is_zero several =
     cond-true _ _ _ (lt-ltb group 128 (omega arith)) ∙ cond-true _ _ _ (and_from (eqb group 0) (ltb 0 before) (eq-eqb group 0 is_zero) (lt-ltb 0 before several))
 
-pub fifth_group : (before group : ℕ) (rest : List ℕ) → 128 ≤ group → before ≡ 4 → groups_after before (group ∷ rest) ≡ Err (by_tape BadNumber)
+pub fifth_group : (before group : ℕ) (rest : List ℕ) → 128 ≤ group → before ≡ 4 → groups_after before (group ∷ rest) ≡ Err BadNumber
 unfolding groups_after
 fifth_group before group rest more fifth = cond-false _ _ _ (le-ltb group 128 more) ∙ cond-true _ _ _ (eq-eqb before 4 fifth)
 
@@ -49,47 +48,44 @@ pub more_groups : (before group : ℕ) (rest : List ℕ) → 128 ≤ group → (
 unfolding groups_after
 more_groups before group rest more few = cond-false _ _ _ (le-ltb group 128 more) ∙ cond-false _ _ _ (ne_eqb before 4 few)
 
--- the rest of a slice after its first byte, as a slice pattern gives it
-abbrev pub tail_of : List ℕ → List ℕ
-tail_of xs = take (length xs - 1) (drop 1 xs)
+-- what the groups weigh
+weight_more : (place : ℕ) → 2 ^ (7 * place) * 128 ≡ 2 ^ (7 * (place + 1))
+weight_more place = sym (pow-add 2 (7 * place) 7) ∙ ap (λ k. 2 ^ k) (omega arith)
 
--- One turn of the loop, at bytes of which the first is a group: what was known before it is known after it.
-module _ (so_far weight before : ℕ) (xs : List ℕ) (whole : NumberRead) (known : above so_far weight (groups_after before xs) ≡ whole) where
-  pub broken_off : length xs ≡ 0 → Err (by_tape TapeEnds) ≡ whole
+pub stays_below : (so_far digit place : ℕ) → digit < 128 → so_far < 2 ^ (7 * place) → so_far + digit * 2 ^ (7 * place) < 2 ^ (7 * (place + 1))
+stays_below so_far digit place small below =
+    let weight = 2 ^ (7 * place) in omega (arith, weight_more place, mul-le digit weight 127 weight (omega arith) (omega arith))
+
+-- One turn of the loop, at a byte of the tape: what was known before it is known after it.
+module _ (so_far place : ℕ) (tape : List ℕ) (whole : NumberRead) (known : above so_far (2 ^ (7 * place)) (groups_after place (drop place tape)) ≡ whole) where
+  pub broken_off : length tape ≤ place → Err TapeEnds ≡ whole
   unfolding groups_after
-  broken_off none = ap (λ l. above so_far weight (groups_after before l)) (sym (nil_from_length xs none)) ∙ known
+  broken_off none = ap (λ l. above so_far (2 ^ (7 * place)) (groups_after place l)) (sym (drop_of_length-le tape none)) ∙ known
 
-  module _ (some : 0 < length xs) where
-    at_front : above so_far weight (groups_after before (get_or xs 0 0 ∷ tail_of xs)) ≡ whole
-    at_front = ap (λ l. above so_far weight (groups_after before l)) (sym (first_rest xs 0 some)) ∙ known
+  module _ (some : place < length tape) where
+    abbrev pub group : ℕ
+    group = get_or tape place 0
 
-    pub number_ends : (digit : ℕ) → digit ≡ get_or xs 0 0 % 128 → get_or xs 0 0 < 128 → (get_or xs 0 0 ≡ 0 → before ≡ 0) → ◌≡◌ {A = NumberRead} (Ok (so_far + digit * weight, tail_of xs)) whole
-    number_ends digit is last alone =
-        let same : so_far + digit * weight ≡ so_far + weight * get_or xs 0 0 = ap (λ n. so_far + n) (ap (λ n. n * weight) (is ∙ mod-eq_of_lt last) ∙ mul_comm (get_or xs 0 0) weight) in
-        ap {B = NumberRead} (λ (n : ℕ). Ok (n, tail_of xs)) same ∙ ap (above so_far weight) (sym (last_group before (get_or xs 0 0) (tail_of xs) last alone)) ∙ at_front
+    abbrev pub rest : List ℕ
+    rest = drop (place + 1) tape
 
-    pub padded : get_or xs 0 0 ≡ 0 → 0 < before → Err (by_tape BadNumber) ≡ whole
-    padded is_zero several = ap (above so_far weight) (sym (padded_group before (get_or xs 0 0) (tail_of xs) is_zero several)) ∙ at_front
+    at_front : above so_far (2 ^ (7 * place)) (groups_after place (group ∷ rest)) ≡ whole
+    at_front = sym (at_drop_more (λ l. above so_far (2 ^ (7 * place)) (groups_after place l)) tape place 0 some) ∙ known
 
-    pub too_many_groups : 128 ≤ get_or xs 0 0 → before ≡ 4 → Err (by_tape BadNumber) ≡ whole
-    too_many_groups more fifth = ap (above so_far weight) (sym (fifth_group before (get_or xs 0 0) (tail_of xs) more fifth)) ∙ at_front
+    pub number_ends : group < 128 → (group ≡ 0 → place ≡ 0) → ◌≡◌ {A = NumberRead} (Ok (so_far + (group % 128) * 2 ^ (7 * place), rest)) whole
+    number_ends last alone =
+        let same : so_far + (group % 128) * 2 ^ (7 * place) ≡ so_far + 2 ^ (7 * place) * group = ap (λ n. so_far + n) (ap (λ n. n * 2 ^ (7 * place)) (mod-eq_of_lt last) ∙ mul_comm group (2 ^ (7 * place))) in
+        ap {B = NumberRead} (λ (n : ℕ). Ok (n, rest)) same ∙ ap (above so_far (2 ^ (7 * place))) (sym (last_group place group rest last alone)) ∙ at_front
 
-    pub number_goes_on : (digit : ℕ) → digit ≡ get_or xs 0 0 % 128 → 128 ≤ get_or xs 0 0 → (before ≡ 4 → ⊥) → above (so_far + digit * weight) (weight * 128) (groups_after (before + 1) (tail_of xs)) ≡ whole
-    number_goes_on digit is more few =
-        ap (λ d. above (so_far + d * weight) (weight * 128) (groups_after (before + 1) (tail_of xs))) is ∙ sym (above_low so_far weight (get_or xs 0 0 % 128) (groups_after (before + 1) (tail_of xs))) ∙ ap (above so_far weight) (sym (more_groups before (get_or xs 0 0) (tail_of xs) more few)) ∙ at_front
+    pub padded : group ≡ 0 → 0 < place → Err BadNumber ≡ whole
+    padded is_zero several = ap (above so_far (2 ^ (7 * place))) (sym (padded_group place group rest is_zero several)) ∙ at_front
 
--- no product or sum of the loop leaves 64 bits
-pub weight_bounded : (before : ℕ) → before ≤ 4 → 128 ^ before ≤ 2 ^ 28
-weight_bounded before few = pow-le-pow_right {n = 128} (omega arith) few
+    pub too_many_groups : 128 ≤ group → place ≡ 4 → Err BadNumber ≡ whole
+    too_many_groups more fifth = ap (above so_far (2 ^ (7 * place))) (sym (fifth_group place group rest more fifth)) ∙ at_front
 
-pub weight_more : (weight before : ℕ) → weight ≡ 128 ^ before → weight * 128 ≡ 128 ^ (before + 1)
-weight_more weight before is = ap (λ n. n * 128) is ∙ sym (pow-suc 128 before) ∙ ap (λ k. 128 ^ k) (sym (add-one before))
-
-pub group_bounded : (digit weight : ℕ) → digit < 128 → weight ≤ 2 ^ 28 → digit * weight ≤ 127 * 2 ^ 28
-group_bounded digit weight small bounded = mul-le digit weight 127 (2 ^ 28) (omega arith) bounded
-
-pub stays_below : (so_far digit weight : ℕ) → digit < 128 → so_far < weight → so_far + digit * weight < weight * 128
-stays_below so_far digit weight small below = omega (arith, mul-le digit weight 127 weight (omega arith) (omega arith))
+    pub number_goes_on : 128 ≤ group → (place ≡ 4 → ⊥) → above (so_far + (group % 128) * 2 ^ (7 * place)) (2 ^ (7 * (place + 1))) (groups_after (place + 1) rest) ≡ whole
+    number_goes_on more few =
+        ap (λ w. above (so_far + (group % 128) * 2 ^ (7 * place)) w (groups_after (place + 1) rest)) (sym (weight_more place)) ∙ sym (above_low so_far (2 ^ (7 * place)) (group % 128) (groups_after (place + 1) rest)) ∙ ap (above so_far (2 ^ (7 * place))) (sym (more_groups place group rest more few)) ∙ at_front
 
 -- a number takes at least one byte
 low_group_keeps : (P : List ℕ → Type 0) (low : ℕ) (x : NumberRead) → IfOk x (λ read. P read.1) → IfOk (low_group low x) (λ read. P read.1)

@@ -1,19 +1,20 @@
 -- How a record is read from its kind byte and its number.
-use Rattle.std.proofs.Common.{◌≡◌, ℕ, ◌+◌, ◌<◌, ◌≤◌, List, [], ◌∷◌, length, get_or, IfOk, Ok, Err, Result, sym, ap, ◌∙◌, subst, arith}
+use Rattle.std.proofs.Common.{◌≡◌, ℕ, ◌+◌, ◌-◌, ◌<◌, ◌≤◌, List, [], ◌∷◌, length, get_or, take, drop, IfOk, Ok, Err, Result, sym, ap, ◌∙◌, subst, arith}
 use Rattle.std.proofs.lemmas.Slice.{first_rest}
 use Rattle.tape.specs.declared.record.Kind.{Kind}
 use Rattle.tape.specs.declared.record.Record.{Record}
 use Rattle.tape.specs.declared.record.TapeRefusal.{TapeRefusal}
 use Rattle.tape.specs.Records.{NumberRead, RecordRead, kind_of, record_of, read_number, read_record, with_kind, with_number}
-use Rattle.tape.proofs.Numbers.{tail_of, number_shortens}
+use Rattle.tape.proofs.Numbers.{number_shortens}
+
+-- the rest of a slice after its first byte, as a slice pattern gives it
+abbrev pub tail_of : List ℕ → List ℕ
+tail_of xs = take (length xs - 1) (drop 1 xs)
 
 -- At bytes of which the first is of a known kind.
 module _ (xs : List ℕ) (some : 0 < length xs) (kind : Kind) (known : Ok kind ≡ kind_of (get_or xs 0 0)) where
   number_next : with_number kind (read_number (tail_of xs)) ≡ read_record xs
   number_next = ap (λ (k : Result Kind TapeRefusal). with_kind k (tail_of xs)) known ∙ ap read_record (sym (first_rest xs 0 some))
-
-  pub number_refused : (e : TapeRefusal) → ◌≡◌ {A = NumberRead} (Err e) (read_number (tail_of xs)) → ◌≡◌ {A = RecordRead} (Err e) (read_record xs)
-  number_refused e refused = ap (with_number kind) refused ∙ number_next
 
   pub number_read : (n : ℕ) (rest : List ℕ) → ◌≡◌ {A = NumberRead} (Ok (n, rest)) (read_number (tail_of xs)) → ◌≡◌ {A = RecordRead} (Ok (record_of kind n, rest)) (read_record xs)
   number_read n rest read = ap (with_number kind) read ∙ number_next

@@ -5,10 +5,11 @@ use Rattle.refusals.specs.declared.Refusal.{Refusal}
 use Rattle.tape.specs.declared.fault.RecordFault.{RecordFault}
 use Rattle.tape.specs.declared.fault.TapeFault.{TapeFault}
 use Rattle.tape.specs.declared.record.TapeRefusal.{TapeRefusal}
+use Rattle.tape.specs.Records.{refusal_of}
 
 -- the tape refuses
 abbrev pub of_tape : TapeRefusal → RecordFault
-of_tape refused = record { refusal = refused.refusal; origin = Tape }
+of_tape refused = record { refusal = refusal_of refused; origin = Tape }
 
 -- the part refuses
 abbrev pub of_part : Refusal → RecordFault

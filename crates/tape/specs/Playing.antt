@@ -1,6 +1,5 @@
 -- What a tape does: its records are done one after the other on the part, printing in order, until the tape ends or a record is refused.
 use Rattle.std.specs.Prelude.{ℕ, zero, suc, ◌-◌, ◌/◌, ◌%◌, List, [], ◌∷◌, ◌++◌, length, Ok, Err, Result}
-use Rattle.std.specs.Borrow.{Bor}
 use Rattle.lines.specs.Lines.{record_text}
 use Rattle.refusals.specs.declared.Refusal.{Refusal}
 use Rattle.rx5c348a.specs.Part.{PartState, load_part, pulse_part, registers}
@@ -96,7 +95,7 @@ play_from (suc turns) total (x ∷ xs) b = then_on (play_from turns total) (with
 abbrev pub play_rest : ℕ → List ℕ → Bench → Outcome
 play_rest total bytes b = play_from (length bytes) total bytes b
 
--- what the code answers, with the bytes that it points to
-abbrev pub rest_view : {E : Type 0} → Result (Bor (List ℕ)) E → Result (List ℕ) E
-rest_view (Ok rest) = Ok rest.now
-rest_view (Err fault) = Err fault
+-- what the code answers to one record, with the rest that it leaves
+abbrev pub rest_after_step : {E : Type 0} → Result (Unit {0}) E → List ℕ → Result (List ℕ) E
+rest_after_step (Ok done) rest = Ok rest
+rest_after_step (Err fault) rest = Err fault

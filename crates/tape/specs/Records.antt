@@ -2,20 +2,22 @@
 use Rattle.std.specs.Prelude.{ℕ, ◌+◌, ◌*◌, ◌%◌, cond, ◌&&◌, List, [], ◌∷◌, Ok, Err, Result, ◌==◌, nat_lt}
 use Rattle.std.specs.Borrow.{Bor}
 use Rattle.refusals.specs.declared.Refusal.{Refusal}
-use Rattle.refusals.specs.declared.Refusal.TheVariants.{UnknownKind, TapeEnds, BadNumber}
 use Rattle.tape.specs.declared.record.Kind.{Kind}
 use Rattle.tape.specs.declared.record.Kind.TheVariants.{LoadMoment, GivePulses, PrintRegisters}
 use Rattle.tape.specs.declared.record.Record.{Record}
 use Rattle.tape.specs.declared.record.Record.TheVariants.{Load, Pulses, Print}
 use Rattle.tape.specs.declared.record.TapeRefusal.{TapeRefusal}
+use Rattle.tape.specs.declared.record.TapeRefusal.TheVariants.{UnknownKind, TapeEnds, BadNumber}
 
--- the tape itself refuses
-abbrev pub by_tape : Refusal → TapeRefusal
-by_tape refusal = record { refusal = refusal }
+-- the refusal of the table that the tape answers with
+abbrev pub refusal_of : TapeRefusal → Refusal
+refusal_of UnknownKind = Refusal.UnknownKind
+refusal_of TapeEnds = Refusal.TapeEnds
+refusal_of BadNumber = Refusal.BadNumber
 
 -- 4Dh loads a moment, 50h gives pulses, 4Ch prints; no other byte begins a record
 abbrev pub kind_of : ℕ → Result Kind TapeRefusal
-kind_of byte = cond (byte == 0x4D) (Ok LoadMoment) (cond (byte == 0x50) (Ok GivePulses) (cond (byte == 0x4C) (Ok PrintRegisters) (Err (by_tape UnknownKind))))
+kind_of byte = cond (byte == 0x4D) (Ok LoadMoment) (cond (byte == 0x50) (Ok GivePulses) (cond (byte == 0x4C) (Ok PrintRegisters) (Err UnknownKind)))
 
 -- the record of a kind with a number
 abbrev pub record_of : Kind → ℕ → Record
@@ -35,11 +37,11 @@ low_group low (Err e) = Err e
 -- A number after `before` of its groups: seven bits each, lowest first, bit 7 set in all but the last.
 -- There are at most five, and a last group of 0 stands alone.
 unfoldable pub groups_after : ℕ → List ℕ → NumberRead
-groups_after before [] = Err (by_tape TapeEnds)
+groups_after before [] = Err TapeEnds
 groups_after before (group ∷ rest) =
     cond (nat_lt group 128)
-    (cond (group == 0 && nat_lt 0 before) (Err (by_tape BadNumber)) (Ok (group, rest)))
-    (cond (before == 4) (Err (by_tape BadNumber)) (low_group (group % 128) (groups_after (before + 1) rest)))
+    (cond (group == 0 && nat_lt 0 before) (Err BadNumber) (Ok (group, rest)))
+    (cond (before == 4) (Err BadNumber) (low_group (group % 128) (groups_after (before + 1) rest)))
 
 -- a number from its first group on
 abbrev pub read_number : List ℕ → NumberRead
@@ -61,7 +63,7 @@ with_kind (Err e) rest = Err e
 
 -- one record from the front of the tape: kind byte, number, and the rest
 abbrev pub read_record : List ℕ → RecordRead
-read_record [] = Err (by_tape TapeEnds)
+read_record [] = Err TapeEnds
 read_record (byte ∷ rest) = with_kind (kind_of byte) rest
 
 -- what the code answers, with the bytes that it points to

@@ -9,6 +9,7 @@ use lines::{Origin, fault_line};
 use refusals::Refusal;
 
 // A record that is refused, before its place is known.
+// Who refused stands beside the refusal: a line prints both, so two cases would be taken apart at once.
 #[derive(Clone, Copy)]
 pub struct RecordFault {
     pub refusal: Refusal,
@@ -16,6 +17,7 @@ pub struct RecordFault {
 }
 
 // A fault: why, at which byte the record begins, and whether tape or part refused.
+// Flat: its fields are public, and programs print them.
 #[derive(Clone, Copy, PartialEq, Eq, Debug)]
 pub struct TapeFault {
     pub refusal: Refusal,
@@ -26,9 +28,9 @@ pub struct TapeFault {
 impl From<TapeRefusal> for RecordFault {
     ghost from_gives = { λ refused fault. fault ≡ of_tape refused };
 
-    fn from(value: TapeRefusal) -> RecordFault {
+    fn from(refused: TapeRefusal) -> RecordFault {
         RecordFault {
-            refusal: value.refusal,
+            refusal: refused.into(),
             origin: Origin::Tape,
         }
     }
@@ -37,9 +39,9 @@ impl From<TapeRefusal> for RecordFault {
 impl From<Refusal> for RecordFault {
     ghost from_gives = { λ refusal fault. fault ≡ of_part refusal };
 
-    fn from(value: Refusal) -> RecordFault {
+    fn from(refusal: Refusal) -> RecordFault {
         RecordFault {
-            refusal: value,
+            refusal,
             origin: Origin::Part,
         }
     }
@@ -64,7 +66,7 @@ impl TapeFault {
         ensures { (result, out.new) ≡ fault_line (number_of self.refusal) self.place self.origin out.old }
     {
         fault_line(
-            u64::from(self.refusal.number()),
+            u64::from(u8::from(self.refusal)),
             self.place as u64,
             self.origin,
             out,

@@ -1,12 +1,14 @@
 // Playing a tape on a part.
-ghost use Rattle.std.specs.Prelude.{◌≡◌, ◌+◌, ◌*◌, ◌<◌, ◌≤◌, length, IfOk, Ok, vec_len, vec_capacity, MatchResult};
-ghost use Rattle.rx5c348a.specs.Part.{seen, load_part, registers};
-ghost use Rattle.tape.specs.Playing.{bench, printing, do_record, tape_weekday, one_record, with_place, play_rest, rest_view};
+ghost use Rattle.std.specs.Prelude.{◌≡◌, ◌+◌, ◌*◌, ◌<◌, ◌≤◌, length, IfOk, OnOk, vec_len, vec_capacity, MatchResult};
+ghost use Rattle.rx5c348a.specs.Part.{seen, load_part};
+ghost use Rattle.tape.specs.Playing.{bench, printing, do_record, tape_weekday, one_record, with_place, play_rest, rest_after_step};
 ghost use Rattle.tape.specs.Tapes.{played, play_tape};
 ghost use Rattle.tape.specs.Written.{InOrder};
 
 use crate::fault::{RecordFault, TapeFault};
 use crate::record::{Record, read_record};
+use clock_core::cells::Registers;
+use clock_core::setting::Setting;
 use lines::{Origin, record_line};
 use refusals::Refusal;
 use rx5c348a::part::Rx5c348a;
@@ -20,90 +22,79 @@ fn load(moment: u64, part: &mut Rx5c348a) -> Result<(), Refusal>
     ensures { (result, seen part.new) ≡ load_part (seen part.old) moment (tape_weekday moment) 0 1 }
 {
     let weekday = (moment / 86_400 % 7) as u32;
-    part.load(moment, weekday, 0, TWENTY_FOUR_HOURS)
+    part.load(Setting {
+        moment,
+        weekday,
+        trim: 0,
+        mode: TWENTY_FOUR_HOURS,
+    })
 }
 
-// Registers 0 to 15.
-fn copy_registers(part: &Rx5c348a) -> Result<[u8; 16], Refusal>
-    ensures { result ≡ Ok (registers (seen part.now)) }
-{
-    let mut registers = [0; 16];
-    part.look(&mut registers)?;
-    Ok(registers)
+// What is left of a tape that is played, and what it has printed.
+// The part is passed beside it: a borrow in here would have to be named again in every contract.
+#[derive(Drop)]
+struct Playing<'t> {
+    rest: &'t [u8],
+    printed: Vec<u8>,
+    // Room for all that the rest can print was taken before any record ran.
+    ghost room: { vec_len printed + 27 * length rest.now ≤ vec_capacity printed },
 }
 
-// Prints the registers after a number. The room was reserved before the tape ran, so it is never wanting.
-fn print(number: u64, part: &Rx5c348a, printed: &mut Vec<u8>) -> Result<(), Refusal>
-    requires { vec_len printed.old + 54 ≤ vec_capacity printed.old }
-    ensures does { (result, bench (seen part.now) printed.new.items) ≡ printing number (bench (seen part.now) printed.old.items) }
-    ensures len { vec_len printed.new ≤ vec_len printed.old + 54 }
-    ensures room { vec_capacity printed.old ≤ vec_capacity printed.new }
-{
-    let registers = copy_registers(part)?;
-    let mut line = [0u8; 64];
-    let length = record_line(number, &registers, &mut line)?;
-    let _ = printed.extend_from_slice(&line[0..length]);
-    Ok(())
-}
-
-// Does what a record asks for.
-fn perform(record: Record, part: &mut Rx5c348a, printed: &mut Vec<u8>) -> Result<(), Refusal>
-    requires { vec_len printed.old + 54 ≤ vec_capacity printed.old }
-    ensures does { (result, bench (seen part.new) printed.new.items) ≡ do_record «record» (bench (seen part.old) printed.old.items) }
-    ensures len { vec_len printed.new ≤ vec_len printed.old + 54 }
-    ensures room { vec_capacity printed.old ≤ vec_capacity printed.new }
-{
-    match record {
-        Record::Load(moment) => load(moment, part),
-        Record::Pulses(count) => part.pulses(count),
-        Record::Print(number) => print(number, part, printed),
+impl Playing<'_> {
+    // Prints the registers after a number, by the call that makers have too: it writes into a buffer of its caller's.
+    fn print(&mut self, number: u64, part: &Rx5c348a) -> Result<(), Refusal>
+        requires { vec_len self.old.printed + 54 + 27 * length self.old.rest.now ≤ vec_capacity self.old.printed }
+        ensures does { (result, bench (seen part.now) self.new.printed.items) ≡ printing number (bench (seen part.now) self.old.printed.items) }
+        ensures rest { self.new.rest.now ≡ self.old.rest.now }
+    {
+        let mut line = [0u8; 64];
+        let length = record_line(number, &part.registers(), &mut line)?;
+        let _ = self.printed.extend_from_slice(&line[0..length]);
+        Ok(())
     }
-}
 
-// Reads one record from the front of the tape and does it; answers the rest of the tape.
-fn step<'a>(
-    tape: &'a [u8],
-    part: &mut Rx5c348a,
-    printed: &mut Vec<u8>,
-) -> Result<&'a [u8], RecordFault>
-    requires { vec_len printed.old + 27 * length tape.now ≤ vec_capacity printed.old }
-    ensures does { (rest_view result, bench (seen part.new) printed.new.items) ≡ one_record tape.now (bench (seen part.old) printed.old.items) }
-    ensures room { IfOk result (λ rest. vec_len printed.new + 27 * length rest.now ≤ vec_capacity printed.new) }
-    ensures shorter { IfOk result (λ rest. length rest.now < length tape.now) }
-{
-    let (record, rest) = read_record(tape)?;
-    perform(record, part, printed)?;
-    Ok(rest)
-}
-
-// One record of the tape; a fault is given its place.
-fn step_at<'a>(
-    place: usize,
-    tape: &'a [u8],
-    part: &mut Rx5c348a,
-    printed: &mut Vec<u8>,
-) -> Result<&'a [u8], TapeFault>
-    requires { vec_len printed.old + 27 * length tape.now ≤ vec_capacity printed.old }
-    ensures does { (rest_view result, bench (seen part.new) printed.new.items) ≡ with_place place (one_record tape.now (bench (seen part.old) printed.old.items)) }
-    ensures room { IfOk result (λ rest. vec_len printed.new + 27 * length rest.now ≤ vec_capacity printed.new) }
-    ensures shorter { IfOk result (λ rest. length rest.now < length tape.now) }
-{
-    match step(tape, part, printed) {
-        Ok(rest) => Ok(rest),
-        Err(fault) => Err(fault.at(place)),
+    // Does what a record asks for.
+    fn perform(&mut self, record: Record, part: &mut Rx5c348a) -> Result<(), Refusal>
+        requires { vec_len self.old.printed + 54 + 27 * length self.old.rest.now ≤ vec_capacity self.old.printed }
+        ensures does { (result, bench (seen part.new) self.new.printed.items) ≡ do_record «record» (bench (seen part.old) self.old.printed.items) }
+        ensures rest { self.new.rest.now ≡ self.old.rest.now }
+    {
+        match record {
+            Record::Load(moment) => load(moment, part),
+            Record::Pulses(count) => part.pulses(count),
+            Record::Print(number) => self.print(number, part),
+        }
     }
-}
 
-// The records of a tape, one after the other, until it ends or one is refused.
-fn run(tape: &[u8], part: &mut Rx5c348a, printed: &mut Vec<u8>) -> Result<(), TapeFault>
-    requires { vec_len printed.old + 27 * length tape.now ≤ vec_capacity printed.old }
-    ensures { (result, bench (seen part.new) printed.new.items) ≡ play_rest (length tape.now) tape.now (bench (seen part.old) printed.old.items) }
-{
-    let mut rest = tape;
-    while !rest.is_empty() {
-        rest = step_at(tape.len() - rest.len(), rest, part, printed)?;
+    // Reads the next record and does it.
+    fn step(&mut self, part: &mut Rx5c348a) -> Result<(), RecordFault>
+        ensures does { (rest_after_step result self.new.rest.now, bench (seen part.new) self.new.printed.items) ≡ one_record self.old.rest.now (bench (seen part.old) self.old.printed.items) }
+        ensures shorter { OnOk result (length self.new.rest.now < length self.old.rest.now) }
+    {
+        let (record, rest) = read_record(self.rest)?;
+        self.rest = rest;
+        self.perform(record, part)?;
+        Ok(())
     }
-    Ok(())
+
+    // The same, of a record at a place, which a fault is given.
+    fn step_at(&mut self, place: usize, part: &mut Rx5c348a) -> Result<(), TapeFault>
+        ensures does { (rest_after_step result self.new.rest.now, bench (seen part.new) self.new.printed.items) ≡ with_place place (one_record self.old.rest.now (bench (seen part.old) self.old.printed.items)) }
+        ensures shorter { OnOk result (length self.new.rest.now < length self.old.rest.now) }
+    {
+        self.step(part).map_err(|fault| fault.at(place))
+    }
+
+    // The records, one after the other, until the tape ends or one is refused.
+    fn run(&mut self, part: &mut Rx5c348a) -> Result<(), TapeFault>
+        ensures { (result, bench (seen part.new) self.new.printed.items) ≡ play_rest (length self.old.rest.now) self.old.rest.now (bench (seen part.old) self.old.printed.items) }
+    {
+        let total = self.rest.len();
+        while !self.rest.is_empty() {
+            self.step_at(total - self.rest.len(), part)?;
+        }
+        Ok(())
+    }
 }
 
 // The longest tape that is played.
@@ -128,7 +119,7 @@ pub fn play(heap: Global, tape: &[u8], part: &mut Rx5c348a) -> Result<Playback, 
     play_bytes(heap, tape, part)
 }
 
-// Refuses a tape that is too long; runs any other.
+// Refuses a tape that is too long; runs any other. Apart, so that the proof of the order does not open it.
 fn play_bytes(heap: Global, tape: &[u8], part: &mut Rx5c348a) -> Result<Playback, AllocError>
     ensures { MatchResult result (λ p. played p (seen part.new) ≡ play_tape tape.now (seen part.old)) (λ _. seen part.new ≡ seen part.old) }
 {
@@ -143,7 +134,11 @@ fn play_bytes(heap: Global, tape: &[u8], part: &mut Rx5c348a) -> Result<Playback
             end: Err(fault),
         });
     }
-    let mut printed = Vec::with_capacity(heap, tape.len() * ROOM_FOR_A_BYTE)?;
-    let end = run(tape, part, &mut printed);
+    let mut playing = Playing {
+        rest: tape,
+        printed: Vec::with_capacity(heap, tape.len() * ROOM_FOR_A_BYTE)?,
+    };
+    let end = playing.run(part);
+    let Playing { printed, .. } = playing;
     Ok(Playback { printed, end })
 }

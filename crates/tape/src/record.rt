@@ -1,6 +1,6 @@
 // Reading one record: a kind byte, a number, and then the rest of the tape.
-ghost use Rattle.std.specs.Prelude.{◌≡◌, ◌+◌, ◌≤◌, length, IfOk};
-ghost use Rattle.tape.specs.Records.{number_view, record_view, kind_of, record_of, read_number, read_record};
+ghost use Rattle.std.specs.Prelude.{◌≡◌, ◌+◌, ◌*◌, ◌%◌, ◌^◌, ◌≤◌, length, IfOk};
+ghost use Rattle.tape.specs.Records.{number_view, record_view, refusal_of, kind_of, record_of, read_number, read_record};
 
 use refusals::Refusal;
 
@@ -15,7 +15,7 @@ pub enum Record {
     Print(u64),
 }
 
-// What the kind byte says of the number that follows it.
+// What the kind byte says of the number that follows it. Apart from the record, since a kind is refused before its number is read.
 #[derive(Clone, Copy)]
 pub enum Kind {
     LoadMoment,
@@ -24,36 +24,44 @@ pub enum Kind {
 }
 
 // A refusal by the tape itself: the part was not asked.
-#[derive(Clone, Copy)]
-pub struct TapeRefusal {
-    pub refusal: Refusal,
+#[derive(Clone, Copy, PartialEq, Eq, Debug)]
+pub enum TapeRefusal {
+    // no record begins with this byte
+    UnknownKind,
+    // the tape ends inside a record
+    TapeEnds,
+    // a number of more than five groups, or with a padded last group
+    BadNumber,
 }
 
-const UNKNOWN_KIND: TapeRefusal = TapeRefusal {
-    refusal: Refusal::UnknownKind,
-};
+impl From<TapeRefusal> for Refusal {
+    ghost from_gives = { λ refused refusal. refusal ≡ refusal_of refused };
 
-// The tape ends inside a record.
-const BROKEN_OFF: TapeRefusal = TapeRefusal {
-    refusal: Refusal::TapeEnds,
-};
+    fn from(refused: TapeRefusal) -> Refusal {
+        match refused {
+            TapeRefusal::UnknownKind => Refusal::UnknownKind,
+            TapeRefusal::TapeEnds => Refusal::TapeEnds,
+            TapeRefusal::BadNumber => Refusal::BadNumber,
+        }
+    }
+}
 
-const BAD_NUMBER: TapeRefusal = TapeRefusal {
-    refusal: Refusal::BadNumber,
-};
+impl TryFrom<u8> for Kind {
+    type Error = TapeRefusal;
 
-impl Kind {
-    fn of(byte: u8) -> Result<Kind, TapeRefusal>
-        ensures { result ≡ kind_of byte }
-    {
+    ghost try_from_gives = { λ byte answer. answer ≡ kind_of byte };
+
+    fn try_from(byte: u8) -> Result<Kind, TapeRefusal> {
         match byte {
             0x4D => Ok(Kind::LoadMoment),
             0x50 => Ok(Kind::GivePulses),
             0x4C => Ok(Kind::PrintRegisters),
-            _ => Err(UNKNOWN_KIND),
+            _ => Err(TapeRefusal::UnknownKind),
         }
     }
+}
 
+impl Kind {
     fn with(self, number: u64) -> Record
         ensures { result ≡ record_of self number }
     {
@@ -65,30 +73,32 @@ impl Kind {
     }
 }
 
+// The seven bits of a group, at the weight of its place.
+fn weighed(group: u8, place: usize) -> u64
+    requires { place ≤ 4 }
+    ensures { result ≡ (group % 128) * 2 ^ (7 * place) }
+{
+    u64::from(group % 128) << (7 * place)
+}
+
 // A number from the front of the tape, and the rest: groups of seven bits, lowest first, bit 7 set in all but the last.
 fn read_number(tape: &[u8]) -> Result<(u64, &[u8]), TapeRefusal>
     ensures { number_view result ≡ read_number tape.now }
 {
-    let mut number: u64 = 0;
-    let mut weight: u64 = 1;
-    let mut groups: u8 = 0;
-    let mut rest = tape;
-    while let [group, tail @ ..] = rest {
-        number += u64::from(*group % 128) * weight;
+    let mut number = 0;
+    for (place, group) in tape.iter().enumerate() {
+        number += weighed(*group, place);
         if *group < 128 {
-            if *group == 0 && groups > 0 {
-                return Err(BAD_NUMBER);
+            if *group == 0 && place > 0 {
+                return Err(TapeRefusal::BadNumber);
             }
-            return Ok((number, tail));
+            return Ok((number, &tape[place + 1..]));
         }
-        if groups == 4 {
-            return Err(BAD_NUMBER);
+        if place == 4 {
+            return Err(TapeRefusal::BadNumber);
         }
-        weight *= 128;
-        groups += 1;
-        rest = tail;
     }
-    Err(BROKEN_OFF)
+    Err(TapeRefusal::TapeEnds)
 }
 
 // One record from the front of the tape, and the rest. A record has at least two bytes.
@@ -97,9 +107,9 @@ pub fn read_record(tape: &[u8]) -> Result<(Record, &[u8]), TapeRefusal>
     ensures shorter { IfOk result (λ read. length read.1.now + 2 ≤ length tape.now) }
 {
     let [byte, rest @ ..] = tape else {
-        return Err(BROKEN_OFF);
+        return Err(TapeRefusal::TapeEnds);
     };
-    let kind = Kind::of(*byte)?;
+    let kind = Kind::try_from(*byte)?;
     let (number, rest) = read_number(rest)?;
     Ok((kind.with(number), rest))
 }

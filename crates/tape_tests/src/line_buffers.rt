@@ -1,6 +1,7 @@
 // The line calls on short, exact and longer buffers.
 use lines::{Origin, fault_line, record_line};
 use refusals::Refusal;
+use std::test::Fail;
 
 const LARGEST: u64 = 0xFFFF_FFFF_FFFF_FFFF;
 
@@ -76,4 +77,11 @@ fn fault_lines(rt: HostRuntime) {
         out.as_slice(),
         b"fault 0 at 0 in tape\n51615 at 18446744073709551615 in tape\n.....".as_slice()
     );
+}
+
+#[test]
+fn who_refused_in_words(rt: HostRuntime) -> Result<(), Fail> {
+    let words = format!(in rt.alloc(); "{} {}", Origin::Tape, Origin::Part)?;
+    assert_eq!(rt; words.as_str(), "tape part");
+    Ok(())
 }

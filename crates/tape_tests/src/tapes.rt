@@ -10,11 +10,10 @@ fn printout(heap: Global, tape: &[u8]) -> Result<Vec<u8>, Fail> {
     let mut part = Rx5c348a::power_on();
     let mut playback = play(heap, tape, &mut part)?;
     if let Err(fault) = playback.end {
+        // by the call that makers have too, into a buffer of its caller's
         let mut line = [0u8; 64];
         let length = fault.line(&mut line)?;
-        for byte in line.iter().take(length) {
-            playback.printed.push(*byte)?;
-        }
+        playback.printed.extend_from_slice(&line[..length])?;
     }
     Ok(playback.printed)
 }
@@ -217,13 +216,8 @@ fn on_the_part(rt: HostRuntime) -> Result<(), Fail> {
 
 // As many records of no pulses as `count` says, and then a print record.
 fn long_tape(heap: Global, count: usize) -> Result<Vec<u8>, Fail> {
-    let mut tape = Vec::new(heap);
-    for _ in 0..count {
-        tape.push(0x50)?;
-        tape.push(0)?;
-    }
-    tape.push(0x4C)?;
-    tape.push(5)?;
+    let mut tape = b"\x50\x00".repeat(heap, count)?;
+    tape.extend_from_slice(b"\x4C\x05")?;
     Ok(tape)
 }
 

@@ -1,19 +1,19 @@
 -- A bare core is true to its sights.
-use Rattle.std.proofs.Common.{◌≡◌, ℕ, Bool, true, false, cond, eqb, ltb, length, get_or, Some, None, Ok, Err, sym, refl, ap, ◌∙◌, subst, arith, ltb-true, eqb-true}
+use Rattle.std.proofs.Common.{◌≡◌, ℕ, Bool, true, false, cond, eqb, ltb, List, length, get_or, Some, None, Ok, Err, sym, refl, ap, ◌∙◌, subst, arith, ltb-true, eqb-true}
 use Rattle.refusals.specs.declared.Refusal.TheVariants.{TooManyPulses, ShortBuffer, NoSuchCell, AlreadyHeld, NotHeld}
 use Rattle.register_map.specs.declared.hour_mode.HourMode.{HourMode}
 use Rattle.register_map.specs.declared.hour_mode.HourMode.TheVariants.{Twelve, TwentyFour}
-use Rattle.register_map.specs.Chart.{Chart, map_state, put_byte}
+use Rattle.register_map.specs.Chart.{Chart, Lawful, map_state, put_byte}
 use Rattle.clock_core.specs.Core.{CoreState, Accepted as Acceptance, with_map, many_pulses, registers, released, set_core_mode}
-use Rattle.clock_core.proofs.Copies.{filled_front}
+use Rattle.std.proofs.lemmas.List.{get_or_append_left}
 use Rattle.timekeeping.specs.declared.call.CoreCall.{CoreCall}
 use Rattle.timekeeping.specs.declared.call.CoreCall.TheVariants.{Pulses, Hold, Release, Read, Write, Look, SetTrim, SetHourMode, RestartSecond}
-use Rattle.timekeeping.specs.declared.call.CoreAnswer.{CoreAnswer}
-use Rattle.timekeeping.specs.declared.call.CoreAnswer.TheVariants.{Refused, Registers}
-use Rattle.timekeeping.specs.CoreCalls.{accepted_with, byte_read, do_call, same_mode, core_sight, core_machine}
+use Rattle.timekeeping.specs.declared.call.CoreAnswer.TheVariants.{Registers}
+use Rattle.timekeeping.specs.CoreCalls.{Answer, accepted_with, byte_read, do_call, same_mode, core_sight, core_machine}
 use Rattle.timekeeping.specs.Logs.{Nothing, Wrote, state_after}
 use Rattle.timekeeping.proofs.Keeping.{Acts, held_core}
-use Rattle.timekeeping.proofs.Theorem.{TrueToSights}
+use Rattle.timekeeping.specs.Law.{KeepsTime}
+use Rattle.timekeeping.proofs.Theorem.{TrueToSights, the_law}
 
 pub modes_agree : (m to : HourMode) → same_mode m to ≡ true → m ≡ to
 modes_agree Twelve Twelve e = refl
@@ -48,10 +48,10 @@ module _ (c : Chart) (mode : HourMode) (s : CoreState) where
   row_is cell byte true e whole f =
       let less = ltb-true _ _ e in
       let here : byte ≡ get_or (registers s) cell 0 = cc in
-      here ∙ filled_front s.map.cells _ cell (omega arith)
+      here ∙ get_or_append_left s.map.cells _ 0 cell (omega arith)
   row_is cell byte false e whole f = cc
 
-  acts_look : (room : ℕ) (short : Bool) → Acts c mode (core_sight c.count mode (Look room) (cond short (Refused ShortBuffer) (Registers (registers s)))) s s
+  acts_look : (room : ℕ) (short : Bool) → Acts c mode (core_sight c.count mode (Look room) (cond short (Err ShortBuffer) (Ok (Registers (registers s))))) s s
   acts_look room true = λ _. refl
   acts_look room false = (refl, λ whole cell byte f. row_is cell byte (ltb cell c.count) refl whole f)
 
@@ -78,5 +78,9 @@ module _ (c : Chart) (mode : HourMode) (s : CoreState) where
 pub core_true : (c : Chart) (start : CoreState) (mode : HourMode) → TrueToSights (core_machine c) c mode start
 core_true c start mode h log heard =
     let s : CoreState = state_after (core_machine c) start log in
-    let P : CoreAnswer → Type 0 = λ a. Acts c mode (core_sight c.count mode h.call a) s (do_call c s h.call).1 in
+    let P : Answer → Type 0 = λ a. Acts c mode (core_sight c.count mode h.call a) s (do_call c s h.call).1 in
     subst P (sym heard.0) (acts_call c mode s h.call)
+
+-- the law for every list of calls on a core
+pub core_law : (c : Chart) → Lawful c → (start : CoreState) (calls : List CoreCall) → KeepsTime (core_machine c) c start calls
+core_law c law start calls = the_law (core_machine c) c law start (λ new. core_true c start new.map.mode) calls

@@ -2,15 +2,15 @@
 use Rattle.std.proofs.Common.{◌≡◌, ℕ, ◌%◌, Bool, true, false, cond, eqb, List, [], ◌∷◌, Some, Ok, Err, Option, sym, refl, ap, ◌∙◌, subst, arith}
 use Rattle.std.specs.Option.{option_map}
 use Rattle.refusals.specs.declared.Refusal.TheVariants.{NotHeld}
-use Rattle.register_map.specs.Chart.{Chart, Lawful, Shown, MapState, shown_by, second_of, second_after, advanced_from}
+use Rattle.register_map.specs.declared.shown.Shown.{Shown}
+use Rattle.register_map.specs.Chart.{Chart, Lawful, MapState, shown_by, second_of, second_after, advanced_from}
 use Rattle.clock_core.specs.Core.{CoreState, Accepted as Acceptance, counted_value, many_pulses, cross_boundary, released, registers}
 use Rattle.clock_core.specs.Seconds.{second_pulses, trimmed_length}
 use Rattle.clock_core.proofs.Runs.{pulses_to_boundary}
 use Rattle.timekeeping.specs.declared.call.CoreCall.{CoreCall}
 use Rattle.timekeeping.specs.declared.call.CoreCall.TheVariants.{Pulses, Hold, Release, Look}
-use Rattle.timekeeping.specs.declared.call.CoreAnswer.{CoreAnswer}
 use Rattle.timekeeping.specs.declared.call.CoreAnswer.TheVariants.{Accepted, Registers}
-use Rattle.timekeeping.specs.CoreCalls.{accepted_with, core_machine}
+use Rattle.timekeeping.specs.CoreCalls.{Answer, accepted_with, core_machine}
 use Rattle.timekeeping.specs.Logs.{Heard, Log, state_after, log_with, log_of, answers_in, sights_of, Undisturbed, ShortStretches}
 use Rattle.timekeeping.specs.Example.{example_calls, example_core, MeetsPremises}
 use Rattle.timekeeping.proofs.Moments.{showable_after}
@@ -36,14 +36,14 @@ module _ (c : Chart) (law : Lawful c) (m : MapState) (p : Shown) (shows : shown_
   stays_held : after_pulses.held ≡ true
   stays_held = ap (λ (s : CoreState). s.held) crosses
 
-  abbrev release_heard : Bool → Heard CoreCall CoreAnswer
+  abbrev release_heard : Bool → Heard CoreCall Answer
   release_heard held = record { call = Release; answer = (accepted_with (cond {A = Acceptance × CoreState} held (Ok tt, released c after_pulses) (Err NotHeld, after_pulses))).0 }
 
   abbrev earlier : Log (core_machine c)
   earlier =
-      record { call = Look 16; answer = Registers (registers after_pulses) }
-      ∷ record { call = Pulses 32644; answer = Accepted }
-      ∷ record { call = Hold; answer = Accepted }
+      record { call = Look 16; answer = Ok (Registers (registers after_pulses)) }
+      ∷ record { call = Pulses 32644; answer = Ok Accepted }
+      ∷ record { call = Hold; answer = Ok Accepted }
       ∷ []
 
   -- the log, with every answer
@@ -51,10 +51,10 @@ module _ (c : Chart) (law : Lawful c) (m : MapState) (p : Shown) (shows : shown_
   unfolding log_with state_after
   the_log = ap (λ (b : Bool). release_heard b ∷ earlier) stays_held
 
-  abbrev answers_with : CoreState → List CoreAnswer
-  answers_with s = Accepted ∷ Accepted ∷ Registers (registers s) ∷ Accepted ∷ []
+  abbrev answers_with : CoreState → List Answer
+  answers_with s = Ok Accepted ∷ Ok Accepted ∷ Ok (Registers (registers s)) ∷ Ok Accepted ∷ []
 
-  the_answers : answers_in (core_machine c) (log_of (core_machine c) (example_core c m) example_calls) ≡ Accepted ∷ Accepted ∷ Registers (registers (example_core c m)) ∷ Accepted ∷ []
+  the_answers : answers_in (core_machine c) (log_of (core_machine c) (example_core c m) example_calls) ≡ Ok Accepted ∷ Ok Accepted ∷ Ok (Registers (registers (example_core c m))) ∷ Ok Accepted ∷ []
   unfolding answers_in
   the_answers =
       ap (answers_in (core_machine c)) the_log

@@ -4,7 +4,8 @@ use Rattle.std.specs.Option.{option_map}
 use Rattle.std.proofs.lemmas.Int.{ints}
 use Rattle.std.proofs.lemmas.Bool.Decides.{nat_tests}
 use Rattle.register_map.specs.declared.hour_mode.HourMode.{HourMode}
-use Rattle.register_map.specs.Chart.{Chart, Shown, Showable, Lawful, MapState, map_state, shown_by, second_of, advanced, advanced_from}
+use Rattle.register_map.specs.declared.shown.Shown.{Shown}
+use Rattle.register_map.specs.Chart.{Chart, Showable, Lawful, MapState, map_state, shown_by, second_of, advanced, advanced_from}
 use Rattle.clock_core.specs.Core.{CoreState, with_map, waiting, at_position, begin_second, cross_boundary, one_pulse, many_pulses, counted_value, released as released_core}
 use Rattle.clock_core.specs.Seconds.{second_pulses, trimmed_length}
 use Rattle.clock_core.proofs.Runs.{pulse_within, pulse_crosses}

@@ -1,6 +1,7 @@
 -- Moments and their seconds values, some seconds on.
 use Rattle.std.proofs.Common.{◌≡◌, ℕ, zero, suc, ◌+◌, ◌%◌, ◌<◌, Bool, true, false, cond, eqb, Some, ap, mod-lt, arith}
-use Rattle.register_map.specs.Chart.{Chart, Shown, Showable, Lawful, second_of, second_after, weekday_after}
+use Rattle.register_map.specs.declared.shown.Shown.{Shown}
+use Rattle.register_map.specs.Chart.{Chart, Showable, Lawful, second_of, second_after, weekday_after}
 use Rattle.clock_core.specs.Seconds.{second_pulses, trimmed_length}
 use Rattle.clock_core.proofs.Values.{value_after}
 use Rattle.timekeeping.specs.Seconds.{seconds_past, length_of_second}

@@ -3,7 +3,8 @@ use Rattle.std.proofs.Common.{◌≡◌, ℕ, suc, ◌+◌, ◌<◌, ◌≤◌, 
 use Rattle.std.specs.Option.{option_map}
 use Rattle.std.specs.List.{AllByRecursion}
 use Rattle.register_map.specs.declared.hour_mode.HourMode.{HourMode}
-use Rattle.register_map.specs.Chart.{Chart, Lawful, Shown, Showable, MapState, map_state, shown_by, second_of}
+use Rattle.register_map.specs.declared.shown.Shown.{Shown}
+use Rattle.register_map.specs.Chart.{Chart, Lawful, Showable, MapState, map_state, shown_by, second_of}
 use Rattle.clock_core.specs.Core.{CoreState, new_core, counted_value}
 use Rattle.clock_core.specs.Seconds.{second_pulses}
 use Rattle.timekeeping.specs.Law.{NewlyMade, Timekeeping, calendar, GivenFrom, KeepsTime}

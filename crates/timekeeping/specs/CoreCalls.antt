@@ -6,38 +6,45 @@ use Rattle.register_map.specs.declared.hour_mode.HourMode.{HourMode}
 use Rattle.register_map.specs.declared.hour_mode.HourMode.TheVariants.{Twelve, TwentyFour}
 use Rattle.register_map.specs.Chart.{Chart}
 use Rattle.clock_core.specs.Core.{CoreState, Accepted as Acceptance, give_pulses, hold_core, release_core, read_cell, write_cell, registers, set_trim, set_core_mode, restart_second}
-use Rattle.timekeeping.specs.Logs.{Sight, Took, Held, Released, Wrote, Gave, Nothing, Machine}
+use Rattle.timekeeping.specs.Logs.{Sight, Took, Held, Released, Wrote, Gave, Nothing, Machine, machine_of}
 use Rattle.timekeeping.specs.declared.call.CoreCall.{CoreCall}
 use Rattle.timekeeping.specs.declared.call.CoreCall.TheVariants.{Pulses, Hold, Release, Read, Write, Look, SetTrim, SetHourMode, RestartSecond}
 use Rattle.timekeeping.specs.declared.call.CoreAnswer.{CoreAnswer}
-use Rattle.timekeeping.specs.declared.call.CoreAnswer.TheVariants.{Accepted, Byte, Registers, Refused}
+use Rattle.timekeeping.specs.declared.call.CoreAnswer.TheVariants.{Accepted, Byte, Registers}
 
-abbrev pub acceptance : Acceptance → CoreAnswer
-acceptance (Ok _) = Accepted
-acceptance (Err why) = Refused why
+-- what a call answers, or why it is refused
+abbrev pub Answer : Type 0
+Answer = Result CoreAnswer Refusal
 
-abbrev pub byte_read : Result ℕ Refusal → CoreAnswer
-byte_read (Ok byte) = Byte byte
-byte_read (Err why) = Refused why
+abbrev pub acceptance : Acceptance → Answer
+acceptance (Ok _) = Ok Accepted
+acceptance (Err why) = Err why
 
-abbrev pub accepted_with : Acceptance × CoreState → CoreAnswer × CoreState
+abbrev pub byte_read : Result ℕ Refusal → Answer
+byte_read (Ok byte) = Ok (Byte byte)
+byte_read (Err why) = Err why
+
+abbrev pub accepted_with : Acceptance × CoreState → Answer × CoreState
 accepted_with r = (acceptance r.0, r.1)
 
--- a look with a buffer of so many bytes
-abbrev pub registers_seen : CoreState → ℕ → CoreAnswer
-registers_seen s room = cond (nat_lt room 16) (Refused ShortBuffer) (Registers (registers s))
+-- a look at sixteen registers with a buffer of so many bytes
+abbrev pub row_seen : List ℕ → ℕ → Result (List ℕ) Refusal
+row_seen row room = cond (nat_lt room 16) (Err ShortBuffer) (Ok row)
+
+abbrev pub registers_seen : CoreState → ℕ → Answer
+registers_seen s room = cond (nat_lt room 16) (Err ShortBuffer) (Ok (Registers (registers s)))
 
 -- One call: its answer, and the core after it.
-abbrev pub do_call : Chart → CoreState → CoreCall → CoreAnswer × CoreState
+abbrev pub do_call : Chart → CoreState → CoreCall → Answer × CoreState
 do_call c s (Pulses n) = accepted_with (give_pulses c s n)
 do_call c s Hold = accepted_with (hold_core s)
 do_call c s Release = accepted_with (release_core c s)
 do_call c s (Read cell) = (byte_read (read_cell c s cell), s)
 do_call c s (Write cell byte) = accepted_with (write_cell c s cell byte)
 do_call c s (Look room) = (registers_seen s room, s)
-do_call c s (SetTrim byte) = (Accepted, set_trim s byte)
-do_call c s (SetHourMode to) = (Accepted, set_core_mode s to)
-do_call c s RestartSecond = (Accepted, restart_second c s)
+do_call c s (SetTrim byte) = (Ok Accepted, set_trim s byte)
+do_call c s (SetHourMode to) = (Ok Accepted, set_core_mode s to)
+do_call c s RestartSecond = (Ok Accepted, restart_second c s)
 
 -- What an onlooker makes of them.
 
@@ -78,20 +85,12 @@ read_sight (SetTrim _) byte = Nothing
 read_sight (SetHourMode _) byte = Nothing
 read_sight RestartSecond byte = Nothing
 
-abbrev pub core_sight : ℕ → HourMode → CoreCall → CoreAnswer → Sight
-core_sight count mode call Accepted = accepted_sight mode call
-core_sight count mode call (Byte byte) = read_sight call byte
-core_sight count mode call (Registers row) = Gave (cells_of count row)
-core_sight count mode call (Refused _) = Nothing
+abbrev pub core_sight : ℕ → HourMode → CoreCall → Answer → Sight
+core_sight count mode call (Ok Accepted) = accepted_sight mode call
+core_sight count mode call (Ok (Byte byte)) = read_sight call byte
+core_sight count mode call (Ok (Registers row)) = Gave (cells_of count row)
+core_sight count mode call (Err _) = Nothing
 
 -- A bare core over a map.
 abbrev pub core_machine : Chart → Machine
-core_machine c =
-    record {
-      Call = CoreCall;
-      Answer = CoreAnswer;
-      State = CoreState;
-      step = do_call c;
-      core = λ s. s;
-      sight = λ mode before h. core_sight c.count mode h.call h.answer;
-    }
+core_machine c = machine_of (do_call c) (λ s. s) (λ mode before h. core_sight c.count mode h.call h.answer)

@@ -1,6 +1,7 @@
 -- An example: a list that meets the law's premises, with a boundary crossed while held.
-use Rattle.std.specs.Prelude.{◌≡◌, ◌%◌, List, [], ◌∷◌, Some}
-use Rattle.register_map.specs.Chart.{Chart, Lawful, Shown, MapState, shown_by, second_of, second_after}
+use Rattle.std.specs.Prelude.{◌≡◌, ◌%◌, List, [], ◌∷◌, Some, Ok}
+use Rattle.register_map.specs.declared.shown.Shown.{Shown}
+use Rattle.register_map.specs.Chart.{Chart, Lawful, MapState, shown_by, second_of, second_after}
 use Rattle.clock_core.specs.Core.{CoreState, new_core, registers}
 use Rattle.timekeeping.specs.declared.call.CoreCall.{CoreCall}
 use Rattle.timekeeping.specs.declared.call.CoreCall.TheVariants.{Pulses, Hold, Release, Look}
@@ -23,7 +24,7 @@ pub record MeetsPremises (c : Chart) (m : MapState) (p : Shown) : Type 0 where
   pub newly_made : NewlyMade c (example_core c m)
   pub undisturbed : Undisturbed (core_machine c) m.mode (log_of (core_machine c) (example_core c m) example_calls)
   pub short_stretches : ShortStretches (core_machine c) m.mode (log_of (core_machine c) (example_core c m) example_calls)
-  pub looked : answers_in (core_machine c) (log_of (core_machine c) (example_core c m) example_calls) ≡ Accepted ∷ Accepted ∷ Registers (registers (example_core c m)) ∷ Accepted ∷ []
+  pub looked : answers_in (core_machine c) (log_of (core_machine c) (example_core c m) example_calls) ≡ Ok Accepted ∷ Ok Accepted ∷ Ok (Registers (registers (example_core c m))) ∷ Ok Accepted ∷ []
   pub one_second_on : calendar (core_machine c) c (example_core c m) (log_of (core_machine c) (example_core c m) example_calls) ≡ Some (second_after c p)
 
 -- On every lawful map that shows such a moment.

@@ -2,7 +2,8 @@
 -- and what cells read in one held stretch have in common.
 use Rattle.std.specs.Prelude.{◌≡◌, ℕ, ◌<◌, false, List, [], ◌∷◌, ◌++◌, pos, neg_ℤ, ◌≤ℤ◌, Some, Option, slice_index}
 use Rattle.std.specs.List.{AllByRecursion}
-use Rattle.register_map.specs.Chart.{Chart, Shown, MapState, shown_by, second_of}
+use Rattle.register_map.specs.declared.shown.Shown.{Shown}
+use Rattle.register_map.specs.Chart.{Chart, MapState, shown_by, second_of}
 use Rattle.clock_core.specs.Core.{CoreState, new_core}
 use Rattle.timekeeping.specs.Logs.{Sight, Took, Held, Released, Wrote, Gave, Nothing, Machine, Log, state_after, log_of, sights_after, sights_of, pulses_taken, is_held, Stretch, Undisturbed, ShortStretches}
 use Rattle.timekeeping.specs.Seconds.{WholeSeconds, seconds_past, drift}

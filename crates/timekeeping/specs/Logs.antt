@@ -35,6 +35,11 @@ pub record Machine : Type 1 where
   pub core : State → CoreState
   pub sight : HourMode → List (Heard Call Answer) → Heard Call Answer → Sight
 
+-- the machine of these members
+abbrev pub machine_of : {Call Answer State : Type 0} → (State → Call → Answer × State) → (State → CoreState) → (HourMode → List (Heard Call Answer) → Heard Call Answer → Sight) → Machine
+machine_of {Call} {Answer} {State} step core sight =
+    record { Call = Call; Answer = Answer; State = State; step = step; core = core; sight = sight }
+
 -- What was heard so far, the newest first.
 abbrev pub Log : Machine → Type 0
 Log m = List (Heard m.Call m.Answer)

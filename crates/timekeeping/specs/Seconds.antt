@@ -1,6 +1,7 @@
 -- Whole seconds in pulses, and how far the two drift apart.
 use Rattle.std.specs.Prelude.{ℕ, zero, suc, ◌+◌, ◌*◌, ◌%◌, ◌<◌, ◌≤◌, cond, ℤ, pos, ◌+ℤ◌, ◌-ℤ◌, ◌*ℤ◌, ◌==◌}
-use Rattle.register_map.specs.Chart.{Chart, Shown, second_after}
+use Rattle.register_map.specs.declared.shown.Shown.{Shown}
+use Rattle.register_map.specs.Chart.{Chart, second_after}
 use Rattle.clock_core.specs.Seconds.{trim_pulses, trimmed_length}
 
 -- the length of second i, counted from 0, from a seconds value on: trimmed where value + i is a multiple of 20

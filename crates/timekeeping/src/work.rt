@@ -1,89 +1,72 @@
-// Works a list of calls on a core.
-ghost use Rattle.std.specs.Prelude.{◌≡◌, MatchResult};
-ghost use Rattle.clock_core.specs.View.{meant};
-ghost use Rattle.timekeeping.specs.CoreCalls.{acceptance, byte_read, registers_seen, do_call, core_machine};
-ghost use Rattle.timekeeping.specs.Logs.{outcome};
+// Works a list of calls on one thing with a core in it.
+ghost use Rattle.std.specs.Prelude.{◌≡◌, List, MatchResult, Result};
+ghost use Rattle.refusals.specs.declared.Refusal.{Refusal as Why};
+ghost use Rattle.register_map.specs.declared.hour_mode.HourMode.{HourMode};
+ghost use Rattle.register_map.specs.Chart.{Chart};
+ghost use Rattle.clock_core.specs.Core.{CoreState};
+ghost use Rattle.timekeeping.specs.CoreCalls.{row_seen};
+ghost use Rattle.timekeeping.specs.Logs.{Sight, Heard, machine_of, outcome};
 ghost use Rattle.timekeeping.specs.Law.{KeepsTime};
 
-use crate::call::{CoreAnswer, CoreCall};
-use clock_core::clock::ClockCore;
+use clock_core::cells::Registers;
 use refusals::Refusal;
-use register_map::map::RegisterMap;
 use std::alloc::{AllocError, Global};
 
-pub fn accepted_or_refused(res: Result<(), Refusal>) -> CoreAnswer
-    ensures { result ≡ acceptance res }
-{
-    match res {
-        Ok(()) => CoreAnswer::Accepted,
-        Err(why) => CoreAnswer::Refused(why),
-    }
-}
+// A call on such a thing, as a list has it.
+pub trait Call<T>: Copy {
+    // of an accepted call
+    type Answer: Drop;
 
-pub fn byte_or_refused(res: Result<u8, Refusal>) -> CoreAnswer
-    ensures { result ≡ byte_read res }
-{
-    match res {
-        Ok(byte) => CoreAnswer::Byte(byte),
-        Err(why) => CoreAnswer::Refused(why),
-    }
+    // what contracts speak of
+    ghost State: { Type 0 };
+
+    ghost seen: { T → State };
+
+    // what a call answers and leaves
+    ghost step: { State → Self → Result Self.Answer Why × State };
+
+    ghost core: { State → CoreState };
+
+    // what an onlooker, who heard the calls before, makes of one more
+    ghost sight: { HourMode → List (Heard Self (Result Self.Answer Why)) → Heard Self (Result Self.Answer Why) → Sight };
+
+    // of the map under the core
+    ghost chart: { Chart };
+
+    // what the thing must keep, beyond that its core is newly made, where a list begins
+    ghost begins: { State → Type 0 };
+
+    fn call(self, on: &mut T) -> Result<Self::Answer, Refusal>
+        ensures { (result, seen on.new) ≡ step (seen on.old) self };
+
+    // Says that every list of these calls keeps time.
+    fn keeps_time()
+        ensures { (start : State) → begins start → (calls : List Self) → KeepsTime (machine_of step core sight) chart start calls };
 }
 
 // A look with a buffer of so many bytes.
-fn look_with<M: RegisterMap>(core: &ClockCore<M>, room: usize) -> CoreAnswer
-    ensures { result ≡ registers_seen (meant M.RegisterMap core.now) room }
+pub fn look_with<T: Registers>(thing: &T, room: usize) -> Result<[u8; 16], Refusal>
+    ensures { result ≡ row_seen (T.Registers.row thing.now) room }
 {
     let mut buffer = [0u8; 16];
-    let seen = if room < 16 {
-        core.look(&mut buffer[0..room])
-    } else {
-        core.look(&mut buffer)
-    };
-    match seen {
-        Ok(()) => CoreAnswer::Registers(buffer),
-        Err(why) => CoreAnswer::Refused(why),
-    }
-}
-
-// Does one call.
-pub fn do_call<M: RegisterMap>(core: &mut ClockCore<M>, call: CoreCall) -> CoreAnswer
-    ensures { (result, meant M.RegisterMap core.new) ≡ do_call M.RegisterMap.chart (meant M.RegisterMap core.old) call }
-{
-    match call {
-        CoreCall::Pulses(count) => accepted_or_refused(core.pulses(count)),
-        CoreCall::Hold => accepted_or_refused(core.hold()),
-        CoreCall::Release => accepted_or_refused(core.release()),
-        CoreCall::Read(cell) => byte_or_refused(core.read(cell)),
-        CoreCall::Write(cell, byte) => accepted_or_refused(core.write(cell, byte)),
-        CoreCall::Look(room) => look_with(core, room),
-        CoreCall::SetTrim(byte) => {
-            core.set_trim(byte);
-            CoreAnswer::Accepted
-        }
-        CoreCall::SetHourMode(to) => {
-            core.set_hour_mode(to);
-            CoreAnswer::Accepted
-        }
-        CoreCall::RestartSecond => {
-            core.restart_second();
-            CoreAnswer::Accepted
-        }
-    }
+    thing.look(&mut buffer[..room.min(16)])?;
+    Ok(buffer)
 }
 
 // Works a list of calls, one after the other, and gives their answers. From a newly made core the list keeps time.
-// Room for the answers is found first: want of memory leaves the core as it was.
-pub fn work_calls<M: RegisterMap>(
+// Room for the answers is found first: want of memory leaves the thing as it was.
+pub fn work_calls<T, C: Call<T>>(
     heap: Global,
-    core: &mut ClockCore<M>,
-    calls: &[CoreCall],
-) -> Result<Vec<CoreAnswer>, AllocError>
-    ensures answers { MatchResult result (λ v. outcome (core_machine M.RegisterMap.chart) (meant M.RegisterMap core.old) calls.now ≡ (v.items, meant M.RegisterMap core.new)) (λ _. meant M.RegisterMap core.new ≡ meant M.RegisterMap core.old) }
-    ensures law { KeepsTime (core_machine M.RegisterMap.chart) M.RegisterMap.chart (meant M.RegisterMap core.old) calls.now }
+    thing: &mut T,
+    calls: &[C],
+) -> Result<Vec<Result<C::Answer, Refusal>>, AllocError>
+    ensures answers { MatchResult result (λ v. outcome (machine_of C.step C.core C.sight) (C.seen thing.old) calls.now ≡ (v.items, C.seen thing.new)) (λ _. C.seen thing.new ≡ C.seen thing.old) }
+    ensures law { C.begins (C.seen thing.old) → KeepsTime (machine_of C.step C.core C.sight) C.chart (C.seen thing.old) calls.now }
 {
+    C::keeps_time();
     let mut answers = Vec::with_capacity(heap, calls.len())?;
     for call in calls {
-        let answer = do_call(core, *call);
+        let answer = call.call(thing);
         answers.push_reserved(answer);
     }
     Ok(answers)

@@ -1,11 +1,19 @@
 // The list that is worked.
+use clock_core::setting::Setting;
 use host_runs::call::{HostCall, SessionCall};
 use rx5c348a_runs::call::WireCall;
 
 // 00:00:58 on 1 January 2000, a Saturday.
-pub(crate) const MOMENT: u64 = 3_155_760_058;
+const MOMENT: u64 = 3_155_760_058;
 
-pub(crate) const SATURDAY: u32 = 6;
+const SATURDAY: u32 = 6;
+
+pub(crate) const START: Setting = Setting {
+    moment: MOMENT,
+    weekday: SATURDAY,
+    trim: 0,
+    mode: 1,
+};
 
 // Alarm_D at 00:01.
 const ALARM_D: [u8; 2] = [0x01, 0x00];
@@ -30,7 +38,12 @@ pub(crate) const CALLS: [HostCall<'static>; 18] = [
     HostCall::First(SessionCall::Read(0)),
     HostCall::First(SessionCall::Read(16)),
     // a load that is refused
-    HostCall::Wire(WireCall::Load(MOMENT, 7, 0, 1)),
+    HostCall::Wire(WireCall::Load(Setting {
+        moment: MOMENT,
+        weekday: 7,
+        trim: 0,
+        mode: 1,
+    })),
     // the part is let go, so that the waiting second counts and the alarm rings, and is held again
     HostCall::Second(SessionCall::Open),
     HostCall::Second(SessionCall::Read(FLAGS)),

@@ -1,5 +1,6 @@
-// What is printed.
+// What is printed. The words are this program's own, so they are no Display of the calls.
 use host_runs::call::{HostAnswer, HostCall, SessionCall};
+use refusals::Refusal;
 use rx5c348a_runs::call::{WireAnswer, WireCall};
 
 fn print_session_call(rt: &HostRuntime, call: SessionCall<'_>) -> anyhow::Result<()> {
@@ -21,8 +22,8 @@ fn print_session_call(rt: &HostRuntime, call: SessionCall<'_>) -> anyhow::Result
 
 pub(crate) fn print_call(rt: &HostRuntime, call: HostCall<'_>) -> anyhow::Result<()> {
     match call {
-        HostCall::Wire(WireCall::Load(moment, weekday, trim, mode)) => {
-            print!(rt; "load {moment} {weekday} {trim} {mode}")?
+        HostCall::Wire(WireCall::Load(to)) => {
+            print!(rt; "load {} {} {} {}", to.moment, to.weekday, to.trim, to.mode)?
         }
         HostCall::Wire(WireCall::Pulses(count)) => print!(rt; "pulses {count}")?,
         HostCall::Wire(WireCall::Pins(levels)) => print!(rt; "pins {levels}")?,
@@ -43,8 +44,8 @@ fn print_wire_answer(rt: &HostRuntime, answer: WireAnswer) -> anyhow::Result<()>
     match answer {
         WireAnswer::Accepted => println!(rt; ": accepted")?,
         WireAnswer::Levels(levels) => {
-            let so = levels.so.number();
-            let intr = levels.intr.number();
+            let so = u8::from(levels.so);
+            let intr = u8::from(levels.intr);
             println!(rt; ": SO {so}, /INTR {intr}")?;
         }
         WireAnswer::Registers(row) => {
@@ -54,25 +55,21 @@ fn print_wire_answer(rt: &HostRuntime, answer: WireAnswer) -> anyhow::Result<()>
             }
             println!(rt; "")?;
         }
-        WireAnswer::Refused(why) => {
-            let number = why.number();
-            println!(rt; ": refused with {number}")?;
-        }
     }
     Ok(())
 }
 
-pub(crate) fn print_answer(rt: &HostRuntime, answer: HostAnswer) -> anyhow::Result<()> {
+pub(crate) fn print_answer(
+    rt: &HostRuntime,
+    answer: Result<HostAnswer, Refusal>,
+) -> anyhow::Result<()> {
     match answer {
-        HostAnswer::Wire(answer) => print_wire_answer(rt, answer)?,
-        HostAnswer::Done => println!(rt; ": done")?,
-        HostAnswer::Byte(byte) => println!(rt; ": {byte:02X}h")?,
-        HostAnswer::Moved(count) => println!(rt; ": {count} bytes moved")?,
-        HostAnswer::Refused(why) => {
-            let number = why.number();
-            println!(rt; ": refused with {number}")?;
-        }
-        HostAnswer::DoesNotBuild => println!(rt; ": does not build")?,
+        Ok(HostAnswer::Wire(answer)) => print_wire_answer(rt, answer)?,
+        Ok(HostAnswer::Done) => println!(rt; ": done")?,
+        Ok(HostAnswer::Byte(byte)) => println!(rt; ": {byte:02X}h")?,
+        Ok(HostAnswer::Moved(count)) => println!(rt; ": {count} bytes moved")?,
+        Ok(HostAnswer::DoesNotBuild) => println!(rt; ": does not build")?,
+        Err(why) => println!(rt; ": {why}")?,
     }
     Ok(())
 }

@@ -4,8 +4,7 @@
 mod calls;
 mod lines;
 
-use anyhow::anyhow;
-use calls::{CALLS, MOMENT, SATURDAY};
+use calls::{CALLS, START};
 use host_runs::session::HostSession;
 use host_runs::work::{Hosts, work_host_calls};
 use host_sessions::idle::IdleSession;
@@ -21,9 +20,7 @@ fn fresh_hosts() -> Hosts {
 
 fn run(rt: &HostRuntime) -> anyhow::Result<()> {
     let mut part = Rx5c348a::power_on();
-    if part.load(MOMENT, SATURDAY, 0, 1).is_err() {
-        return Err(anyhow!("the part was not loaded"));
-    }
+    part.load(START)?;
     let mut buffer = [0u8; 7];
     let (hosts, worked) = work_host_calls(
         rt.alloc(),

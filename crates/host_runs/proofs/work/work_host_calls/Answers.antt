@@ -26,7 +26,7 @@ loop-call-preserved c =
       omega (arith, c.loop-call-test.true),
       omega (arith, c.push_reserved.ensures.len),
       omega (arith, c.push_reserved.ensures.capacity),
-      run_more _ _ _ _ _ _ _ _ _ (take_more c.args.calls.now c.loop-call.call-index (Wire (Load 0 0 0 0)) c.loop-call-test.true) inv.3 c.work_one-answer.ensures c.push_reserved.ensures.items,
+      run_more _ _ _ _ _ _ _ _ _ (take_more c.args.calls.now c.loop-call.call-index (Wire (Load (record { moment = 0; weekday = 0; trim = 0; mode = 0 }))) c.loop-call-test.true) inv.3 c.call-answer.ensures c.push_reserved.ensures.items,
     )
 
 pub returns : goal.returns

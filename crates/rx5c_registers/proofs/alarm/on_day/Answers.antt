@@ -1,9 +1,6 @@
 use Rattle.std.proofs.Common.{sym, ◌∙◌, le-ltb}
-use Rattle.rx5c_registers.proofs.Days.{day_bit, no_day}
+use Rattle.rx5c_registers.proofs.Days.{no_day}
 use Rattle.rx5c_registers.proofs.alarm.on_day.Goals as goal
-
-pub returns-then-weekday-lt8 : goal.returns-then-weekday-lt8
-returns-then-weekday-lt8 c = day_bit c.args.days c.args.weekday
 
 pub returns-else-weekday-lt8 : goal.returns-else-weekday-lt8
 returns-else-weekday-lt8 c =

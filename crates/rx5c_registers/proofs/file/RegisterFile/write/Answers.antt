@@ -10,5 +10,5 @@ returns c =
       value = c.write_register.ensures;
       stands =
           subst (StandsIn (file_seen c.args.self.now) c.args.address c.args.byte) (sym c.write_register.ensures)
-          (written_stands (file_seen c.args.self.now) c.args.address c.args.byte c.args.self.now.core.map.seven c.args.self.now.two_rows c.ranges.byte.fits);
+          (written_stands (file_seen c.args.self.now) c.args.address c.args.byte c.args.self.now.core.map.cells.seven c.args.self.now.two_rows c.ranges.byte.fits);
     }

@@ -1,0 +1,53 @@
+// A session of a host with a part, in one of its states.
+ghost use Rattle.std.specs.Prelude.{◌≡◌};
+ghost use Rattle.rx5c348a_whole.specs.Part.{seen};
+ghost use Rattle.host_wires.specs.Record.{wired};
+ghost use Rattle.host_sessions.specs.Sessions.{closed};
+ghost use Rattle.host_sessions.specs.Driven.{levels_of_close, all_driven};
+ghost use Rattle.host_sessions.specs.Laws.{Closes};
+
+use crate::idle::IdleSession;
+use crate::promises::close_to_rest;
+use host_wires::record::PinRecord;
+use rx5c348a_whole::part::Rx5c348a;
+use std::marker::PhantomData;
+
+// It is moved from call to call, so what its state does not take does not build.
+pub struct Session<S> {
+    pub(crate) pins: PinRecord,
+    pub(crate) state: PhantomData<S>,
+}
+
+// The states of a part that is selected.
+pub trait Selected {}
+
+impl<S> Session<S> {
+    pub(crate) fn with(pins: PinRecord) -> Session<S>
+        ensures { result.pins ≡ pins }
+    {
+        Session {
+            pins,
+            state: PhantomData,
+        }
+    }
+}
+
+impl<S: Selected> Session<S> {
+    // Where the next transfer starts, or the levels as the burst left them.
+    pub fn pin_record(&self) -> PinRecord
+        ensures { result ≡ self.now.pins }
+    {
+        self.pins
+    }
+
+    // SCLK low, then CE low, with SI low.
+    pub fn close(self, part: &mut Rx5c348a) -> IdleSession
+        ensures value { wired result.pins (seen part.new) ≡ closed (wired self.pins (seen part.old)) }
+        ensures law { Closes (seen part.old) (seen part.new) }
+        ensures driven { seen part.new ≡ all_driven (levels_of_close (seen part.old)) (seen part.old) }
+    {
+        let Session { mut pins, state: _ } = self;
+        close_to_rest(&mut pins, part);
+        Session::with(pins)
+    }
+}

@@ -1,0 +1,47 @@
+// What the calls of the traits promise, said of a 348A and of its register file.
+ghost use Rattle.std.specs.Prelude.{◌≡◌, MatchResult};
+ghost use Rattle.byte_map.specs.Cells.{byte_chart};
+ghost use Rattle.rx5c_registers.specs.File.{file_seen, look_at};
+ghost use Rattle.rx5c348a_whole.specs.Part.{seen, look_part};
+ghost use Rattle.rx5c348a_runs.specs.Calls.{do_call, part_machine};
+ghost use Rattle.rx5c348a_runs.specs.Start.{AtRest};
+ghost use Rattle.timekeeping.specs.Logs.{outcome};
+ghost use Rattle.timekeeping.specs.Law.{KeepsTime};
+
+use clock_core::cells::Registers;
+use refusals::Refusal;
+use rx5c_registers::file::RegisterFile;
+use rx5c348a_runs::call::{WireAnswer, WireCall};
+use rx5c348a_whole::part::Rx5c348a;
+use std::alloc::{AllocError, Global};
+use timekeeping::work::{Call, work_calls};
+
+pub fn look_at_file(file: &RegisterFile, buffer: &mut [u8]) -> Result<(), Refusal>
+    ensures { (result, buffer.new) ≡ look_at (file_seen file.now) buffer.old }
+{
+    file.look(buffer)
+}
+
+pub fn look_at_part(part: &Rx5c348a, buffer: &mut [u8]) -> Result<(), Refusal>
+    ensures { (result, buffer.new) ≡ look_part (seen part.now) buffer.old }
+{
+    part.look(buffer)
+}
+
+#[tactic(auto, unfolding(rx5c348a_runs::specs::Calls::work_one))]
+pub fn call_part(part: &mut Rx5c348a, call: WireCall) -> Result<WireAnswer, Refusal>
+    ensures { (result, seen part.new) ≡ do_call (seen part.old) call }
+{
+    call.call(part)
+}
+
+pub fn work_part_calls(
+    heap: Global,
+    part: &mut Rx5c348a,
+    calls: &[WireCall],
+) -> Result<Vec<Result<WireAnswer, Refusal>>, AllocError>
+    ensures answers { MatchResult result (λ v. outcome part_machine (seen part.old) calls.now ≡ (v.items, seen part.new)) (λ _. seen part.new ≡ seen part.old) }
+    ensures law { AtRest (seen part.old) → KeepsTime part_machine byte_chart (seen part.old) calls.now }
+{
+    work_calls(heap, part, calls)
+}
