@@ -23,7 +23,7 @@ pub struct Hosts {
 }
 
 impl Hosts {
-    // One call of a list. The part and the buffer are passed to each: hosts own neither.
+    // One call of a list. The part and the buffer are passed to each: a pair of borrows would have to be named again in every contract.
     #[tactic(auto, unfolding(crate::specs::Hosts::work_one))]
     pub fn call(
         self,
@@ -70,7 +70,7 @@ pub fn work_host_calls(
         Err(full) => return (hosts, Err(full)),
     };
     let mut hosts = hosts;
-    // a loop of its own: a call here moves the sessions, so it is no `Call` on a thing that stays
+    // a loop of its own: a call moves the sessions, and to be a `Call` on a thing that stays they would have to be taken out and put back, which is no plainer
     for call in calls {
         let (next, answer) = hosts.call(part, *call, buffer);
         hosts = next;

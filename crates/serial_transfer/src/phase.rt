@@ -11,7 +11,7 @@ pub enum SerialOut {
 }
 
 impl SerialOut {
-    // A bit put on SO. It is a number, as bits come from `bit_of`.
+    // A bit put on SO. By name: a `From` would read the number of off, 2, as high.
     pub(crate) fn of_bit(bit: u8) -> SerialOut
         ensures { result ≡ level_out bit }
     {
