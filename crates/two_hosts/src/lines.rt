@@ -40,6 +40,15 @@ pub(crate) fn print_call(rt: &HostRuntime, call: HostCall<'_>) -> anyhow::Result
     Ok(())
 }
 
+// The rest of a line of bytes.
+fn print_bytes(rt: &HostRuntime, bytes: &[u8]) -> anyhow::Result<()> {
+    for byte in bytes {
+        print!(rt; " {byte:02X}")?;
+    }
+    println!(rt; "")?;
+    Ok(())
+}
+
 fn print_wire_answer(rt: &HostRuntime, answer: WireAnswer) -> anyhow::Result<()> {
     match answer {
         WireAnswer::Accepted => println!(rt; ": accepted")?,
@@ -50,10 +59,7 @@ fn print_wire_answer(rt: &HostRuntime, answer: WireAnswer) -> anyhow::Result<()>
         }
         WireAnswer::Registers(row) => {
             print!(rt; ":")?;
-            for byte in row {
-                print!(rt; " {byte:02X}")?;
-            }
-            println!(rt; "")?;
+            print_bytes(rt, &row)?;
         }
     }
     Ok(())
@@ -76,9 +82,5 @@ pub(crate) fn print_answer(
 
 pub(crate) fn print_buffer(rt: &HostRuntime, buffer: &[u8; 7]) -> anyhow::Result<()> {
     print!(rt; "read by the burst:")?;
-    for byte in buffer {
-        print!(rt; " {byte:02X}")?;
-    }
-    println!(rt; "")?;
-    Ok(())
+    print_bytes(rt, buffer)
 }
