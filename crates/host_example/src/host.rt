@@ -3,7 +3,7 @@ use host_sessions::idle::IdleSession;
 use host_sessions::open::OpenSession;
 use host_sessions::spent::SpentSession;
 use refusals::Refusal;
-use rx5c348a_whole::part::Rx5c348a;
+use rx5c348a::part::Rx5c348a;
 
 pub(crate) const ALARM_W: u32 = 0x8;
 

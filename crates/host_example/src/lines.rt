@@ -1,7 +1,7 @@
 // How answers are printed.
 use refusals::Refusal;
-use rx5c348a_whole::part::Rx5c348a;
-use rx5c348a_whole::pins::Level;
+use rx5c348a::part::Rx5c348a;
+use rx5c348a::pins::Level;
 use std::io;
 
 // An answer as it is shown, or its refusal.

@@ -9,7 +9,7 @@ use host::{
     write_register, write_registers,
 };
 use lines::{print_accepted, print_byte, print_interrupt, print_time};
-use rx5c348a_whole::part::Rx5c348a;
+use rx5c348a::part::Rx5c348a;
 
 const SECOND: u64 = 32_768;
 

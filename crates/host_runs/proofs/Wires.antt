@@ -1,8 +1,8 @@
 -- A list of hosts' calls is the calls that it makes on the part, and so keeps time.
 use Rattle.std.proofs.Common.{◌≡◌, ℕ, min, List, [], ◌∷◌, ◌++◌, map, length, take, sym, refl, ap, ◌∙◌, arith}
 use Rattle.std.proofs.lemmas.List.{length-take}
-use Rattle.rx5c348a_whole.specs.Part.{PartState}
-use Rattle.rx5c348a_whole.specs.Pins.{pins_part}
+use Rattle.rx5c348a.specs.Part.{PartState}
+use Rattle.rx5c348a.specs.Pins.{pins_part}
 use Rattle.rx5c348a_runs.specs.declared.call.WireCall.{WireCall}
 use Rattle.rx5c348a_runs.specs.declared.call.WireCall.TheVariants.{Pins}
 use Rattle.rx5c348a_runs.specs.Calls.{part_machine, work_one as wire_one}

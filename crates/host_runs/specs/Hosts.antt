@@ -2,7 +2,7 @@
 use Rattle.std.specs.Prelude.{ℕ, min, List, [], ◌∷◌, ◌++◌, length, take, drop, Ok, Err, Result}
 use Rattle.refusals.specs.declared.Refusal.{Refusal}
 use Rattle.clock_core.specs.Core.{Accepted}
-use Rattle.rx5c348a_whole.specs.Part.{PartState}
+use Rattle.rx5c348a.specs.Part.{PartState}
 use Rattle.rx5c348a_runs.specs.Calls.{Answered as WireAnswered, work_one as wire_one}
 use Rattle.host_wires.specs.declared.record.PinRecord.{PinRecord}
 use Rattle.host_wires.specs.Record.{Wired, wired}

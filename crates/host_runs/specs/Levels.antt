@@ -1,6 +1,6 @@
 -- Each call of hosts as the calls that it makes on the part: a call of a session is the levels that it drives.
 use Rattle.std.specs.Prelude.{ℕ, min, List, [], ◌∷◌, ◌++◌, map, length}
-use Rattle.rx5c348a_whole.specs.Part.{PartState}
+use Rattle.rx5c348a.specs.Part.{PartState}
 use Rattle.rx5c348a_runs.specs.declared.call.WireCall.{WireCall}
 use Rattle.rx5c348a_runs.specs.declared.call.WireCall.TheVariants.{Pins}
 use Rattle.rx5c348a_runs.specs.Calls.{part_machine}

@@ -1,6 +1,6 @@
 // A session whose state is known only as its calls come, one by one.
 ghost use Rattle.std.specs.Prelude.{◌≡◌};
-ghost use Rattle.rx5c348a_whole.specs.Part.{seen};
+ghost use Rattle.rx5c348a.specs.Part.{seen};
 ghost use Rattle.host_wires.specs.Record.{wired};
 ghost use Rattle.host_runs.specs.Hosts.{stepped, seat, session_ended, burst_front, idle_step, open_step, spent_step, session_step};
 
@@ -10,7 +10,7 @@ use host_sessions::open::OpenSession;
 use host_sessions::spent::SpentSession;
 use host_wires::record::PinRecord;
 use refusals::Refusal;
-use rx5c348a_whole::part::Rx5c348a;
+use rx5c348a::part::Rx5c348a;
 
 pub enum HostSession {
     Idle(IdleSession),

@@ -4,7 +4,7 @@ ghost use Rattle.byte_map.specs.Cells.{byte_chart};
 ghost use Rattle.timekeeping.specs.Law.{KeepsTime};
 ghost use Rattle.rx5c348a_runs.specs.Calls.{part_machine};
 ghost use Rattle.rx5c348a_runs.specs.Start.{AtRest};
-ghost use Rattle.rx5c348a_whole.specs.Part.{seen};
+ghost use Rattle.rx5c348a.specs.Part.{seen};
 ghost use Rattle.host_runs.specs.Hosts.{work_one, host_run};
 ghost use Rattle.host_runs.specs.Standing.{standing};
 ghost use Rattle.host_runs.specs.Levels.{on_wires, part_after};
@@ -12,7 +12,7 @@ ghost use Rattle.host_runs.specs.Levels.{on_wires, part_after};
 use crate::call::{HostAnswer, HostCall};
 use crate::session::HostSession;
 use refusals::Refusal;
-use rx5c348a_whole::part::Rx5c348a;
+use rx5c348a::part::Rx5c348a;
 use std::alloc::{AllocError, Global};
 use timekeeping::work::Call;
 

@@ -2,8 +2,8 @@
 use Rattle.std.proofs.Common.{◌≡◌, ℕ, zero, suc, Bool, List, [], ◌∷◌, ◌++◌, length, Ok, Err, Result, sym, refl, ap, ◌∙◌}
 use Rattle.refusals.specs.declared.Refusal.{Refusal}
 use Rattle.clock_core.specs.Core.{Accepted}
-use Rattle.rx5c348a_whole.specs.Part.{PartState}
-use Rattle.rx5c348a_whole.specs.Pins.{pins_part}
+use Rattle.rx5c348a.specs.Part.{PartState}
+use Rattle.rx5c348a.specs.Pins.{pins_part}
 use Rattle.host_wires.specs.Record.{Wired}
 use Rattle.host_wires.specs.Shifting.{bit_in, bits_in, byte_in, bit_out, levels_out, byte_out, bytes_in, bytes_out, low_levels}
 use Rattle.host_sessions.specs.Sessions.{closing, opening, header_for, read_after, reading, write_after, writing, burst_read_after, burst_reading, burst_write_after, burst_writing, single_read_format, single_write_format, burst_read_format, burst_write_format}

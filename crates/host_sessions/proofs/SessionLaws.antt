@@ -10,8 +10,8 @@ use Rattle.serial_transfer.specs.declared.phase.Phase.TheVariants.{Write, Read}
 use Rattle.serial_transfer.specs.Rules.{format_coded, data_at, fallen}
 use Rattle.rx5c_registers.specs.File.{FileState, written}
 use Rattle.rx5c_registers.specs.Clock.{held}
-use Rattle.rx5c348a_whole.specs.Part.{PartState}
-use Rattle.rx5c348a_whole.specs.Pins.{awaits_header, with_landing, pins_part}
+use Rattle.rx5c348a.specs.Part.{PartState}
+use Rattle.rx5c348a.specs.Pins.{awaits_header, with_landing, pins_part}
 use Rattle.host_wires.specs.declared.record.PinRecord.{PinRecord}
 use Rattle.host_wires.specs.Record.{Wired, wired}
 use Rattle.host_wires.specs.Shifting.{byte_in, byte_out, bytes_in, bytes_out}

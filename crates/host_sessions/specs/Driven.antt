@@ -1,8 +1,8 @@
 -- Each call of a session as the levels that it drives, one after another.
 use Rattle.std.specs.Prelude.{ℕ, zero, suc, Bool, true, false, List, [], ◌∷◌, ◌++◌, Ok, Err, Result}
 use Rattle.refusals.specs.declared.Refusal.{Refusal}
-use Rattle.rx5c348a_whole.specs.Part.{PartState}
-use Rattle.rx5c348a_whole.specs.Pins.{pins_part}
+use Rattle.rx5c348a.specs.Part.{PartState}
+use Rattle.rx5c348a.specs.Pins.{pins_part}
 use Rattle.host_wires.specs.Record.{levels, pin_record}
 use Rattle.host_wires.specs.Shifting.{low_levels}
 use Rattle.host_sessions.specs.Sessions.{header_for, burst_write_format, burst_read_format, single_write_format, single_read_format}

@@ -7,8 +7,8 @@ use Rattle.serial_transfer.specs.declared.phase.Phase.TheVariants.{Idle, Write}
 use Rattle.serial_transfer.specs.Rules.{fresh_header}
 use Rattle.rx5c_registers.specs.File.{FileState, written}
 use Rattle.rx5c_registers.specs.Clock.{held, released}
-use Rattle.rx5c348a_whole.specs.Part.{PartState, at_rest}
-use Rattle.rx5c348a_whole.specs.Pins.{awaits_header, sclk_fallen}
+use Rattle.rx5c348a.specs.Part.{PartState, at_rest}
+use Rattle.rx5c348a.specs.Pins.{awaits_header, sclk_fallen}
 use Rattle.host_wires.specs.Laws.{ready_in, byte_at, written_in_turn, registers_in_turn}
 use Rattle.host_sessions.specs.Sessions.{accepted}
 

@@ -3,8 +3,8 @@ use Rattle.std.specs.Prelude.{ℕ, ◌+◌, ◌*◌, Bool, true, false, cond, Li
 use Rattle.refusals.specs.declared.Refusal.{Refusal}
 use Rattle.refusals.specs.declared.Refusal.TheVariants.{NoSuchCell, NoHeaderAwaited}
 use Rattle.clock_core.specs.Core.{Accepted}
-use Rattle.rx5c348a_whole.specs.Part.{PartState}
-use Rattle.rx5c348a_whole.specs.Pins.{awaits_header, pins_part}
+use Rattle.rx5c348a.specs.Part.{PartState}
+use Rattle.rx5c348a.specs.Pins.{awaits_header, pins_part}
 use Rattle.host_wires.specs.declared.record.PinRecord.{PinRecord}
 use Rattle.host_wires.specs.Record.{levels, pin_record, Wired, wired}
 use Rattle.host_wires.specs.Shifting.{byte_in, byte_out, bytes_in, bytes_out}

@@ -1,6 +1,6 @@
 // Bursts: a header, then a whole buffer. A burst spends its session.
 ghost use Rattle.std.specs.Prelude.{◌≡◌, length};
-ghost use Rattle.rx5c348a_whole.specs.Part.{seen};
+ghost use Rattle.rx5c348a.specs.Part.{seen};
 ghost use Rattle.host_wires.specs.Record.{wired};
 ghost use Rattle.host_wires.specs.Shifting.{byte_in, bytes_in, bytes_out};
 ghost use Rattle.host_sessions.specs.Sessions.{burst_reading, burst_writing, burst_read, burst_write};
@@ -14,7 +14,7 @@ use crate::rest::Rest;
 use crate::session::Session;
 use crate::spent::SpentSession;
 use host_wires::record::PinRecord;
-use rx5c348a_whole::part::Rx5c348a;
+use rx5c348a::part::Rx5c348a;
 use serial_transfer::phase::Format;
 
 // A header in, then bytes out until the buffer is full.

@@ -1,11 +1,11 @@
 // The header that begins a transfer.
 ghost use Rattle.std.specs.Prelude.{◌≡◌, ◌<◌};
-ghost use Rattle.rx5c348a_whole.specs.Part.{seen};
+ghost use Rattle.rx5c348a.specs.Part.{seen};
 ghost use Rattle.serial_transfer.specs.Rules.{code_of};
 ghost use Rattle.host_sessions.specs.Sessions.{header_for};
 
 use refusals::Refusal;
-use rx5c348a_whole::part::Rx5c348a;
+use rx5c348a::part::Rx5c348a;
 use serial_transfer::phase::Format;
 
 const LAST_ADDRESS: u32 = 15;

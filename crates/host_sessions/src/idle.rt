@@ -1,6 +1,6 @@
 // A session between openings.
 ghost use Rattle.std.specs.Prelude.{◌≡◌};
-ghost use Rattle.rx5c348a_whole.specs.Part.{seen};
+ghost use Rattle.rx5c348a.specs.Part.{seen};
 ghost use Rattle.host_wires.specs.Record.{wired};
 ghost use Rattle.host_sessions.specs.Sessions.{all_low, opened};
 ghost use Rattle.host_sessions.specs.Driven.{levels_of_open, all_driven};
@@ -10,7 +10,7 @@ use crate::open::OpenSession;
 use crate::promises::open_to_a_header;
 use crate::session::Session;
 use host_wires::record::PinRecord;
-use rx5c348a_whole::part::Rx5c348a;
+use rx5c348a::part::Rx5c348a;
 
 // No transfer can be made: open first.
 pub struct Idle;

@@ -1,7 +1,7 @@
 // What a host can rely on, call by call: the laws stand above what each call drives.
 // They stand apart from the calls, so that no other proof opens what a call does.
 ghost use Rattle.std.specs.Prelude.{◌≡◌, length};
-ghost use Rattle.rx5c348a_whole.specs.Part.{seen};
+ghost use Rattle.rx5c348a.specs.Part.{seen};
 ghost use Rattle.host_wires.specs.Record.{wired};
 ghost use Rattle.host_sessions.specs.Sessions.{opened, closed, single_read, single_write, burst_read, burst_write};
 ghost use Rattle.host_sessions.specs.Driven.{levels_of_open, levels_of_close, levels_of_read, levels_of_write, levels_of_burst_read, levels_of_burst_write, all_driven};
@@ -12,7 +12,7 @@ use crate::singles::{read_single, write_single};
 use crate::wires::{drive_closing, drive_opening};
 use host_wires::record::PinRecord;
 use refusals::Refusal;
-use rx5c348a_whole::part::Rx5c348a;
+use rx5c348a::part::Rx5c348a;
 
 // Whatever the part was doing, it awaits a header.
 pub(crate) fn open_to_a_header(pins: &mut PinRecord, part: &mut Rx5c348a)

@@ -1,6 +1,6 @@
 // A session of a host with a part, in one of its states.
 ghost use Rattle.std.specs.Prelude.{◌≡◌};
-ghost use Rattle.rx5c348a_whole.specs.Part.{seen};
+ghost use Rattle.rx5c348a.specs.Part.{seen};
 ghost use Rattle.host_wires.specs.Record.{wired};
 ghost use Rattle.host_sessions.specs.Sessions.{closed};
 ghost use Rattle.host_sessions.specs.Driven.{levels_of_close, all_driven};
@@ -9,7 +9,7 @@ ghost use Rattle.host_sessions.specs.Laws.{Closes};
 use crate::idle::IdleSession;
 use crate::promises::close_to_rest;
 use host_wires::record::PinRecord;
-use rx5c348a_whole::part::Rx5c348a;
+use rx5c348a::part::Rx5c348a;
 use std::marker::PhantomData;
 
 // It is moved from call to call, so what its state does not take does not build.

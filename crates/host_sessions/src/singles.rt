@@ -1,6 +1,6 @@
 // Single transfers: a header, then one byte. They keep a session open.
 ghost use Rattle.std.specs.Prelude.{◌≡◌};
-ghost use Rattle.rx5c348a_whole.specs.Part.{seen};
+ghost use Rattle.rx5c348a.specs.Part.{seen};
 ghost use Rattle.host_wires.specs.Record.{wired};
 ghost use Rattle.host_wires.specs.Shifting.{byte_in, byte_out};
 ghost use Rattle.host_sessions.specs.Sessions.{reading, writing, single_read, single_write};
@@ -14,7 +14,7 @@ use crate::rest::Rest;
 use crate::session::Session;
 use host_wires::record::PinRecord;
 use refusals::Refusal;
-use rx5c348a_whole::part::Rx5c348a;
+use rx5c348a::part::Rx5c348a;
 use serial_transfer::phase::Format;
 
 // A header in, then a byte out.

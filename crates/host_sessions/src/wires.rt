@@ -2,12 +2,12 @@
 // A session keeps no part, which others may drive between its calls: the part is passed at each.
 // A pair of both borrows would have to be named again in every contract.
 ghost use Rattle.std.specs.Prelude.{◌≡◌};
-ghost use Rattle.rx5c348a_whole.specs.Part.{seen};
+ghost use Rattle.rx5c348a.specs.Part.{seen};
 ghost use Rattle.host_wires.specs.Record.{wired};
 ghost use Rattle.host_sessions.specs.Sessions.{at_levels, opening, closing};
 
 use host_wires::record::PinRecord;
-use rx5c348a_whole::part::Rx5c348a;
+use rx5c348a::part::Rx5c348a;
 
 // Drives CE and SCLK, with SI low. At most one of the two changes, so it is never refused.
 fn drive(pins: &mut PinRecord, part: &mut Rx5c348a, ce: bool, sclk: bool)

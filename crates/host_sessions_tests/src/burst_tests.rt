@@ -1,7 +1,7 @@
 // Bursts: empty ones, and ones that come round from Fh to 0.
 use crate::host::*;
 use host_sessions::idle::IdleSession;
-use rx5c348a_whole::pins::{CE, SCLK};
+use rx5c348a::pins::{CE, SCLK};
 use serial_transfer::phase::SerialOut;
 use std::test::Fail;
 

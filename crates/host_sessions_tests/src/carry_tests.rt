@@ -2,7 +2,7 @@
 use crate::host::*;
 use host_sessions::idle::IdleSession;
 use refusals::Refusal;
-use rx5c348a_whole::part::Rx5c348a;
+use rx5c348a::part::Rx5c348a;
 use std::test::Fail;
 
 // 13:59:59 before the end of the second, 14:00:00 from then on.

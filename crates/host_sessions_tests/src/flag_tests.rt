@@ -2,8 +2,8 @@
 use crate::host::*;
 use host_sessions::idle::IdleSession;
 use refusals::Refusal;
-use rx5c348a_whole::part::Rx5c348a;
-use rx5c348a_whole::pins::CE;
+use rx5c348a::part::Rx5c348a;
+use rx5c348a::pins::CE;
 use std::test::Fail;
 
 const SCRATCH1: u8 = 0x20;

@@ -4,8 +4,8 @@ use clock_core::setting::Setting;
 use host_sessions::idle::IdleSession;
 use host_sessions::open::OpenSession;
 use refusals::Refusal;
-use rx5c348a_whole::part::Rx5c348a;
-use rx5c348a_whole::pins::{CE, SCLK};
+use rx5c348a::part::Rx5c348a;
+use rx5c348a::pins::{CE, SCLK};
 use serial_transfer::bits::bit_of;
 use std::test::Fail;
 

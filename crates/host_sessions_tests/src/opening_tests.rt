@@ -1,8 +1,8 @@
 // Sessions opened over a part that raw levels left in the middle of a transfer.
 use crate::host::*;
 use host_sessions::idle::IdleSession;
-use rx5c348a_whole::part::Rx5c348a;
-use rx5c348a_whole::pins::{CE, SCLK};
+use rx5c348a::part::Rx5c348a;
+use rx5c348a::pins::{CE, SCLK};
 use std::process::Abort;
 use std::test::Fail;
 

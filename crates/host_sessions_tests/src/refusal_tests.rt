@@ -3,8 +3,8 @@ use crate::host::*;
 use host_sessions::idle::IdleSession;
 use host_sessions::open::OpenSession;
 use refusals::Refusal;
-use rx5c348a_whole::part::Rx5c348a;
-use rx5c348a_whole::pins::CE;
+use rx5c348a::part::Rx5c348a;
+use rx5c348a::pins::CE;
 use std::test::Fail;
 
 // Refusals keep a session open, and leave its record and the part alone.

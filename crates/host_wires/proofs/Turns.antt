@@ -6,7 +6,7 @@ use Rattle.serial_transfer.specs.declared.phase.Phase.TheVariants.{Write, Read}
 use Rattle.serial_transfer.specs.Levels.{bit_at, level_out}
 use Rattle.serial_transfer.specs.Phase.{address_of}
 use Rattle.rx5c_registers.specs.File.{FileState, written}
-use Rattle.rx5c348a_whole.specs.Part.{PartState}
+use Rattle.rx5c348a.specs.Part.{PartState}
 use Rattle.host_wires.specs.declared.record.PinRecord.{PinRecord}
 use Rattle.host_wires.specs.Record.{Wired, wired, pin_record}
 use Rattle.host_wires.specs.Shifting.{byte_in, byte_out, bytes_in, bytes_out}

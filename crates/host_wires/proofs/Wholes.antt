@@ -12,8 +12,8 @@ use Rattle.serial_transfer.proofs.Wholes.{halves, bits_spelt}
 use Rattle.rx5c_registers.specs.File.{FileState, registers, written}
 use Rattle.rx5c_registers.specs.Standing.{StandsIn}
 use Rattle.rx5c_registers.proofs.Standing.{written_stands}
-use Rattle.rx5c348a_whole.specs.Part.{PartState}
-use Rattle.rx5c348a_whole.specs.Pins.{with_landing, pins_part}
+use Rattle.rx5c348a.specs.Part.{PartState}
+use Rattle.rx5c348a.specs.Pins.{with_landing, pins_part}
 use Rattle.host_wires.specs.declared.record.PinRecord.{PinRecord}
 use Rattle.host_wires.specs.Record.{Wired, wired, pin_record}
 use Rattle.host_wires.specs.Shifting.{bit_in, bit_set, low_levels, bits_in, byte_in, levels_out, byte_out}

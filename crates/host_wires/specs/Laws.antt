@@ -8,7 +8,7 @@ use Rattle.serial_transfer.specs.Rules.{fresh_header, format_coded, data_at, aft
 use Rattle.serial_transfer.specs.Bytes.{bits_of}
 use Rattle.rx5c_registers.specs.File.{FileState, registers, written}
 use Rattle.rx5c_registers.specs.Standing.{StandsIn}
-use Rattle.rx5c348a_whole.specs.Part.{PartState}
+use Rattle.rx5c348a.specs.Part.{PartState}
 use Rattle.host_wires.specs.Record.{Wired}
 use Rattle.host_wires.specs.Shifting.{levels_out}
 

@@ -1,7 +1,7 @@
 -- The host's pin record, and the two ends of the wires together.
 use Rattle.std.specs.Prelude.{ℕ, ◌+◌, Bool}
 use Rattle.rx5c_registers.specs.File.{bit_if}
-use Rattle.rx5c348a_whole.specs.Part.{PartState}
+use Rattle.rx5c348a.specs.Part.{PartState}
 use Rattle.host_wires.specs.declared.record.PinRecord.{PinRecord}
 
 -- The levels as a part takes them: 4 for CE, 2 for SCLK and 1 for SI, added.

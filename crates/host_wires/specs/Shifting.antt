@@ -5,8 +5,8 @@ use Rattle.serial_transfer.specs.declared.phase.SerialOut.{SerialOut}
 use Rattle.serial_transfer.specs.declared.phase.SerialOut.TheVariants.{Off}
 use Rattle.serial_transfer.specs.Levels.{bit_at}
 use Rattle.serial_transfer.specs.Bytes.{spelt}
-use Rattle.rx5c348a_whole.specs.declared.pins.PinAnswer.{PinAnswer}
-use Rattle.rx5c348a_whole.specs.Pins.{pins_part}
+use Rattle.rx5c348a.specs.declared.pins.PinAnswer.{PinAnswer}
+use Rattle.rx5c348a.specs.Pins.{pins_part}
 use Rattle.host_wires.specs.declared.record.PinRecord.{PinRecord}
 use Rattle.host_wires.specs.Record.{levels, pin_record, Wired, wired}
 

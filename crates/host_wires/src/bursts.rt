@@ -1,12 +1,12 @@
 // Bytes shifted in and out one after another.
 ghost use Rattle.std.specs.Prelude.{◌≡◌, length};
-ghost use Rattle.rx5c348a_whole.specs.Part.{seen};
+ghost use Rattle.rx5c348a.specs.Part.{seen};
 ghost use Rattle.host_wires.specs.Record.{wired};
 ghost use Rattle.host_wires.specs.Shifting.{bytes_in, bytes_out};
 ghost use Rattle.host_wires.specs.Laws.{AllArrive, AllStandThere};
 
 use crate::record::PinRecord;
-use rx5c348a_whole::part::Rx5c348a;
+use rx5c348a::part::Rx5c348a;
 
 impl PinRecord {
     // Bytes on SI, one after another.

@@ -2,7 +2,7 @@
 ghost use Rattle.std.specs.Prelude.{◌≡◌};
 ghost use Rattle.host_wires.specs.Record.{levels};
 
-use rx5c348a_whole::pins::{CE, SCLK, SI};
+use rx5c348a::pins::{CE, SCLK, SI};
 
 #[derive(Clone, Copy, PartialEq, Eq, Debug)]
 pub struct PinRecord {

@@ -2,13 +2,13 @@
 // The part is passed at each call, since a pin record holds only what a host knows: levels, by value.
 // The loops are not those of a transfer, which answers what landed: a host only hears SO.
 ghost use Rattle.std.specs.Prelude.{◌≡◌};
-ghost use Rattle.rx5c348a_whole.specs.Part.{seen};
+ghost use Rattle.rx5c348a.specs.Part.{seen};
 ghost use Rattle.host_wires.specs.Record.{wired};
 ghost use Rattle.host_wires.specs.Shifting.{driven_to, driven, bit_in, byte_in, bit_out, byte_out};
 ghost use Rattle.host_wires.specs.Laws.{Arrives, StandsThere};
 
 use crate::record::PinRecord;
-use rx5c348a_whole::part::Rx5c348a;
+use rx5c348a::part::Rx5c348a;
 use serial_transfer::bits::{bit_of, taken_in};
 use serial_transfer::phase::SerialOut;
 

@@ -1,5 +1,6 @@
-// The smaller 348A: its clock alone, over the byte map. The whole part is rx5c348a_whole.
+// The 348A: the register file on four wires, CE, SCLK, SI and SO, with its interrupt line.
 #![tactic(auto)]
 
 pub mod calls;
 pub mod part;
+pub mod pins;

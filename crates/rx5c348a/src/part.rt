@@ -1,10 +1,12 @@
 // The part's record.
-use byte_map::map::ByteMap;
-use clock_core::clock::ClockCore;
+use rx5c_registers::file::RegisterFile;
+use serial_transfer::transfer::Transfer;
 
 #[derive(Drop)]
 pub struct Rx5c348a {
-    pub core: ClockCore<ByteMap>,
-    // XSTP: the oscillator has stopped, and the time is not to be trusted
-    pub oscillator_stopped: bool,
+    pub registers: RegisterFile,
+    // the levels that CE and SCLK were given last; SI counts only in its call
+    pub ce: bool,
+    pub sclk: bool,
+    pub transfer: Transfer,
 }

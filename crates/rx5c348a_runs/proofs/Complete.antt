@@ -9,8 +9,8 @@ use Rattle.serial_transfer.specs.declared.phase.Phase.TheVariants.{Header, Write
 use Rattle.serial_transfer.specs.Levels.{taken}
 use Rattle.rx5c_registers.specs.File.{FileState, registers, has, masked, hour_mode_in}
 use Rattle.rx5c_registers.proofs.Rows.{lower_register}
-use Rattle.rx5c348a_whole.specs.Pins.{pins_part}
-use Rattle.rx5c348a_whole.specs.Part.{PartState}
+use Rattle.rx5c348a.specs.Pins.{pins_part}
+use Rattle.rx5c348a.specs.Part.{PartState}
 use Rattle.timekeeping.specs.CoreCalls.{same_mode, one_cell, cells_of}
 use Rattle.timekeeping.specs.Logs.{Sight, Held, Released, Wrote, Gave, Nothing, Log, log_of, is_write}
 use Rattle.timekeeping.proofs.Heard.{truly_with}

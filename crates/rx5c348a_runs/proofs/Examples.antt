@@ -17,9 +17,9 @@ use Rattle.clock_core.specs.Seconds.{trimmed_length}
 use Rattle.serial_transfer.specs.Levels.{out_number}
 use Rattle.rx5c_registers.specs.File.{FileState, registers, has}
 use Rattle.rx5c_registers.specs.Clock as clock
-use Rattle.rx5c348a_whole.specs.declared.pins.PinAnswer.{PinAnswer}
-use Rattle.rx5c348a_whole.specs.Part.{PartState, load_part, pulse_part}
-use Rattle.rx5c348a_whole.specs.Pins.{answer_in, differ, driven, pins_part}
+use Rattle.rx5c348a.specs.declared.pins.PinAnswer.{PinAnswer}
+use Rattle.rx5c348a.specs.Part.{PartState, load_part, pulse_part}
+use Rattle.rx5c348a.specs.Pins.{answer_in, differ, driven, pins_part}
 use Rattle.timekeeping.specs.Logs.{Sight, Took, Held, Released, Wrote, Gave, Nothing, Log, hear, state_after, log_with, log_of, sights_of, pulses_by, pulses_taken, is_held, held_by, is_write, Undisturbed, ShortStretches}
 use Rattle.timekeeping.specs.Law.{NewlyMade, Timekeeping, calendar}
 use Rattle.timekeeping.specs.Seconds.{WholeSeconds, length_of_second, first_seconds, seconds_past}

@@ -13,8 +13,8 @@ use Rattle.rx5c_registers.specs.File.{FileState, registers, has}
 use Rattle.rx5c_registers.specs.Clock as clock
 use Rattle.rx5c_registers.proofs.Ringing.{taken_core}
 use Rattle.rx5c_registers.proofs.Rows.{lower_register}
-use Rattle.rx5c348a_whole.specs.Part.{PartState, with_file, after_load, load_part, pulse_part}
-use Rattle.rx5c348a_whole.specs.Pins.{pins_part}
+use Rattle.rx5c348a.specs.Part.{PartState, with_file, after_load, load_part, pulse_part}
+use Rattle.rx5c348a.specs.Pins.{pins_part}
 use Rattle.timekeeping.specs.Law.{NewlyMade, KeepsTime}
 use Rattle.timekeeping.specs.Logs.{Log, state_after}
 use Rattle.timekeeping.proofs.Heard.{Truly}

@@ -20,9 +20,9 @@ use Rattle.serial_transfer.proofs.Shifts.{taken_more}
 use Rattle.rx5c_registers.specs.File.{FileState, with_core, written, masked, hour_mode_in, cell_put, cell_written, alarm_written, control_written, flags_written}
 use Rattle.rx5c_registers.specs.Clock.{at_minute, minute_begun, held, released}
 use Rattle.rx5c_registers.proofs.Rows.{lower_register}
-use Rattle.rx5c348a_whole.specs.declared.pins.PinAnswer.{PinAnswer}
-use Rattle.rx5c348a_whole.specs.Part.{PartState}
-use Rattle.rx5c348a_whole.specs.Pins.{answer_in, differ, driven, due_byte, with_landing}
+use Rattle.rx5c348a.specs.declared.pins.PinAnswer.{PinAnswer}
+use Rattle.rx5c348a.specs.Part.{PartState}
+use Rattle.rx5c348a.specs.Pins.{answer_in, differ, driven, due_byte, with_landing}
 use Rattle.timekeeping.specs.CoreCalls.{one_cell, same_mode}
 use Rattle.timekeeping.specs.Logs.{Wrote, Gave, Nothing}
 use Rattle.timekeeping.proofs.CoreSights.{acts_mode}

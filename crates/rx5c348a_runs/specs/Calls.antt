@@ -6,9 +6,9 @@ use Rattle.register_map.specs.declared.hour_mode.HourMode.{HourMode}
 use Rattle.clock_core.specs.Core.{Accepted as Acceptance}
 use Rattle.serial_transfer.specs.Levels.{out_number}
 use Rattle.rx5c_registers.specs.File.{registers, has}
-use Rattle.rx5c348a_whole.specs.declared.pins.PinAnswer.{PinAnswer}
-use Rattle.rx5c348a_whole.specs.Part.{PartState, load_part, pulse_part}
-use Rattle.rx5c348a_whole.specs.Pins.{pins_part}
+use Rattle.rx5c348a.specs.declared.pins.PinAnswer.{PinAnswer}
+use Rattle.rx5c348a.specs.Part.{PartState, load_part, pulse_part}
+use Rattle.rx5c348a.specs.Pins.{pins_part}
 use Rattle.timekeeping.specs.CoreCalls.{cells_of}
 use Rattle.timekeeping.specs.Logs.{Sight, Took, Wrote, Gave, Nothing, Heard, Machine}
 use Rattle.rx5c348a_runs.specs.declared.call.WireCall.{WireCall}

@@ -6,7 +6,7 @@ use Rattle.serial_transfer.specs.declared.phase.SerialOut.{SerialOut}
 use Rattle.serial_transfer.specs.declared.phase.Phase.TheVariants.{Write, Read}
 use Rattle.serial_transfer.specs.Levels.{taken}
 use Rattle.rx5c_registers.specs.File.{has, masked, hour_mode_in}
-use Rattle.rx5c348a_whole.specs.Part.{PartState}
+use Rattle.rx5c348a.specs.Part.{PartState}
 use Rattle.timekeeping.specs.CoreCalls.{same_mode, one_cell}
 use Rattle.timekeeping.specs.Logs.{Sight, Wrote, Gave, state_after, log_of}
 use Rattle.rx5c348a_runs.specs.declared.call.WireCall.{WireCall}

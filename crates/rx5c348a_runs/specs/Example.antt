@@ -3,7 +3,7 @@ use Rattle.std.specs.Prelude.{◌≡◌, ℕ, zero, suc, ◌+◌, ◌%◌, false
 use Rattle.register_map.specs.Chart.{second_of, second_after}
 use Rattle.byte_map.specs.Cells.{byte_chart}
 use Rattle.serial_transfer.specs.Levels.{bit_at}
-use Rattle.rx5c348a_whole.specs.Part.{PartState, power_on, load_part}
+use Rattle.rx5c348a.specs.Part.{PartState, power_on, load_part}
 use Rattle.timekeeping.specs.Law.{NewlyMade, Timekeeping, calendar}
 use Rattle.timekeeping.specs.Logs.{Sight, Took, Held, Released, Wrote, Gave, Nothing, Log, log_of, sights_of, Undisturbed, ShortStretches}
 use Rattle.rx5c348a_runs.specs.declared.call.WireCall.{WireCall}

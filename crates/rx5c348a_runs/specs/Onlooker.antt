@@ -6,7 +6,7 @@ use Rattle.serial_transfer.specs.declared.phase.Format.TheVariants.{SingleWrite,
 use Rattle.serial_transfer.specs.Levels.{taken}
 use Rattle.serial_transfer.specs.Rules.{format_coded}
 use Rattle.rx5c_registers.specs.File.{masked, hour_mode_in}
-use Rattle.rx5c348a_whole.specs.Pins.{differ}
+use Rattle.rx5c348a.specs.Pins.{differ}
 use Rattle.timekeeping.specs.CoreCalls.{same_mode, one_cell}
 use Rattle.timekeeping.specs.Logs.{Sight, Held, Released, Wrote, Gave, Nothing}
 

@@ -3,7 +3,7 @@ use Rattle.std.specs.Prelude.{◌≡◌, ℕ, false, Ok}
 use Rattle.byte_map.specs.Cells.{byte_chart}
 use Rattle.clock_core.specs.Core.{Accepted}
 use Rattle.serial_transfer.specs.declared.phase.Phase.TheVariants.{Idle}
-use Rattle.rx5c348a_whole.specs.Part.{PartState, load_part}
+use Rattle.rx5c348a.specs.Part.{PartState, load_part}
 use Rattle.timekeeping.specs.Law.{NewlyMade}
 
 -- A part at rest: its pins are low, and no transfer is under way.

@@ -1,14 +1,14 @@
 // The calls of a part as data, and what they answer.
 ghost use Rattle.std.specs.Prelude.{◌≡◌};
 ghost use Rattle.byte_map.specs.Cells.{byte_chart};
-ghost use Rattle.rx5c348a_whole.specs.Part.{PartState, seen};
+ghost use Rattle.rx5c348a.specs.Part.{PartState, seen};
 ghost use Rattle.rx5c348a_runs.specs.Calls.{call_sight, notes, work_one};
 ghost use Rattle.rx5c348a_runs.specs.Start.{AtRest};
 
 use clock_core::setting::Setting;
 use refusals::Refusal;
-use rx5c348a_whole::part::Rx5c348a;
-use rx5c348a_whole::pins::PinAnswer;
+use rx5c348a::part::Rx5c348a;
+use rx5c348a::pins::PinAnswer;
 use timekeeping::work::{Call, look_with};
 
 #[derive(Clone, Copy, PartialEq, Eq, Debug)]

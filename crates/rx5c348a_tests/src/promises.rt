@@ -2,7 +2,7 @@
 ghost use Rattle.std.specs.Prelude.{◌≡◌, MatchResult};
 ghost use Rattle.byte_map.specs.Cells.{byte_chart};
 ghost use Rattle.rx5c_registers.specs.File.{file_seen, look_at};
-ghost use Rattle.rx5c348a_whole.specs.Part.{seen, look_part};
+ghost use Rattle.rx5c348a.specs.Part.{seen, look_part};
 ghost use Rattle.rx5c348a_runs.specs.Calls.{do_call, part_machine};
 ghost use Rattle.rx5c348a_runs.specs.Start.{AtRest};
 ghost use Rattle.timekeeping.specs.Logs.{outcome};
@@ -11,8 +11,8 @@ ghost use Rattle.timekeeping.specs.Law.{KeepsTime};
 use clock_core::cells::Registers;
 use refusals::Refusal;
 use rx5c_registers::file::RegisterFile;
+use rx5c348a::part::Rx5c348a;
 use rx5c348a_runs::call::{WireAnswer, WireCall};
-use rx5c348a_whole::part::Rx5c348a;
 use std::alloc::{AllocError, Global};
 use timekeeping::work::{Call, work_calls};
 

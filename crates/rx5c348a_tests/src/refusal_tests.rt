@@ -3,7 +3,7 @@ use crate::host::*;
 use clock_core::cells::Registers;
 use clock_core::setting::Setting;
 use refusals::Refusal;
-use rx5c348a_whole::part::Rx5c348a;
+use rx5c348a::part::Rx5c348a;
 use std::test::Fail;
 
 // The number of a refusal, or 0.

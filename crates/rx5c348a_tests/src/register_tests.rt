@@ -2,7 +2,7 @@
 use crate::host::*;
 use clock_core::cells::Registers;
 use clock_core::setting::Setting;
-use rx5c348a_whole::part::Rx5c348a;
+use rx5c348a::part::Rx5c348a;
 use std::process::Abort;
 use std::test::Fail;
 

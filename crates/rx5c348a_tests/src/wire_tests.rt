@@ -4,11 +4,7 @@ use std::process::Abort;
 use std::test::Fail;
 
 // A byte of which no bit is heard, and none given.
-fn unheard(
-    rt: &impl Abort,
-    part: &mut rx5c348a_whole::part::Rx5c348a,
-    byte: u8,
-) -> Result<(), Fail> {
+fn unheard(rt: &impl Abort, part: &mut rx5c348a::part::Rx5c348a, byte: u8) -> Result<(), Fail> {
     for bit in bits(byte) {
         assert_eq!(rt; clock(part, bit)?, (OFF, OFF));
     }

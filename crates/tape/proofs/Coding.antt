@@ -3,7 +3,7 @@ use Rattle.std.proofs.Common.{◌≡◌, ℕ, zero, suc, ◌+◌, ◌/◌, ◌%�
 use Rattle.std.proofs.lemmas.Nat.{div_below}
 use Rattle.std.proofs.lemmas.Bool.{cases_lt, cond-true, cond-false, lt-ltb, le-ltb}
 use Rattle.tape.specs.declared.record.Record.{Record}
-use Rattle.tape.specs.declared.record.Record.TheVariants.{Load, Pulses, Print}
+use Rattle.tape.specs.declared.record.Record.TheVariants.{Load, Pulses, Levels, Print}
 use Rattle.tape.specs.declared.record.Kind.{Kind}
 use Rattle.tape.specs.Records.{NumberRead, low_group, groups_after, read_number, read_record, with_number}
 use Rattle.tape.specs.Written.{groups_of, number_bytes, record_bytes, number_in}
@@ -38,4 +38,5 @@ number_read_back number rest fits = groups_read_back 4 0 number rest refl (omega
 pub record_read_back : (r : Record) (rest : List ℕ) → number_in r < 2 ^ 35 → read_record (record_bytes r ++ rest) ≡ Ok (r, rest)
 record_read_back (Load moment) rest fits = ap (with_number Kind.LoadMoment) (number_read_back moment rest fits)
 record_read_back (Pulses count) rest fits = ap (with_number Kind.GivePulses) (number_read_back count rest fits)
+record_read_back (Levels levels) rest fits = ap (with_number Kind.GiveLevels) (number_read_back levels rest fits)
 record_read_back (Print number) rest fits = ap (with_number Kind.PrintRegisters) (number_read_back number rest fits)

@@ -4,7 +4,7 @@ use native.Mathlib.Nat.{pow-le-pow_right}
 use Rattle.std.proofs.lemmas.List.{get_or-append-add}
 use Rattle.std.proofs.lemmas.Bool.{cond_both, ltb-true, ltb-false, eqb-true, eqb-false, and_cases}
 use Rattle.tape.specs.declared.record.Kind.{Kind}
-use Rattle.tape.specs.declared.record.Kind.TheVariants.{LoadMoment, GivePulses, PrintRegisters}
+use Rattle.tape.specs.declared.record.Kind.TheVariants.{LoadMoment, GivePulses, GiveLevels, PrintRegisters}
 use Rattle.tape.specs.declared.record.Record.{Record}
 use Rattle.tape.specs.declared.record.TapeRefusal.{TapeRefusal}
 use Rattle.tape.specs.Records.{NumberRead, RecordRead, low_group, groups_after, read_number, read_record, record_of, with_kind, with_number}
@@ -69,7 +69,8 @@ record_stands (byte ∷ bytes) are =
     let number = number_stands 4 0 bytes refl (λ i. are (suc i)) in
     cond_both (eqb byte 0x4D) _ _ P (λ is. by_kind LoadMoment 0x4D (λ n. refl) (λ n. refl) (read_number bytes) (eqb-true byte 0x4D is) number)
     (λ _. cond_both (eqb byte 0x50) _ _ P (λ is. by_kind GivePulses 0x50 (λ n. refl) (λ n. refl) (read_number bytes) (eqb-true byte 0x50 is) number)
-    (λ _. cond_both (eqb byte 0x4C) _ _ P (λ is. by_kind PrintRegisters 0x4C (λ n. refl) (λ n. refl) (read_number bytes) (eqb-true byte 0x4C is) number) (λ _. tt)))
+    (λ _. cond_both (eqb byte 0x57) _ _ P (λ is. by_kind GiveLevels 0x57 (λ n. refl) (λ n. refl) (read_number bytes) (eqb-true byte 0x57 is) number)
+    (λ _. cond_both (eqb byte 0x4C) _ _ P (λ is. by_kind PrintRegisters 0x4C (λ n. refl) (λ n. refl) (read_number bytes) (eqb-true byte 0x4C is) number) (λ _. tt))))
   where
     by_kind : (kind : Kind) (letter : ℕ) → ((n : ℕ) → record_bytes (record_of kind n) ≡ letter ∷ number_bytes n) → ((n : ℕ) → number_in (record_of kind n) ≡ n) → (x : NumberRead) → byte ≡ letter → IfOk x (λ read. NumberStands 4 0 bytes read.0 read.1) → IfOk (with_number kind x) (λ read. RecordStands (byte ∷ bytes) read.0 read.1)
     by_kind kind letter written holds (Ok read) is h =

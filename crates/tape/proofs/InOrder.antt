@@ -8,7 +8,7 @@ use Rattle.rx5c348a.specs.Part.{PartState}
 use Rattle.tape.specs.declared.fault.TapeFault.{TapeFault}
 use Rattle.tape.specs.declared.play.Playback.{Playback}
 use Rattle.tape.specs.declared.record.Record.{Record}
-use Rattle.tape.specs.declared.record.Record.TheVariants.{Load, Pulses, Print}
+use Rattle.tape.specs.declared.record.Record.TheVariants.{Load, Pulses, Levels, Print}
 use Rattle.tape.specs.declared.record.TapeRefusal.{TapeRefusal}
 use Rattle.tape.specs.Playing.{Bench, Outcome, bench, do_record, do_read, done_before, rest_after, one_record, place_fault, with_place, go_on, then_on, play_rest}
 use Rattle.tape.specs.Records.{RecordRead}
@@ -21,6 +21,7 @@ use Rattle.tape.proofs.Stepping.{plays_on, plays_out}
 record_bytes_some : (r : Record) (more : List ℕ) → 0 < length (record_bytes r ++ more)
 record_bytes_some (Load moment) more = omega arith
 record_bytes_some (Pulses count) more = omega arith
+record_bytes_some (Levels levels) more = omega arith
 record_bytes_some (Print number) more = omega arith
 
 -- one written record is done, and the tape goes on after it

@@ -8,8 +8,8 @@ use native.Mathlib.Nat.{sub-zero}
 use Rattle.lines.specs.Lines.{record_text, record_line}
 use Rattle.lines.specs.Words.{hex_byte}
 use Rattle.refusals.specs.declared.Refusal.{Refusal}
-use Rattle.rx5c348a.specs.Part.{PartState, registers}
-use Rattle.rx5c348a.proofs.Rows.{sixteen_registers}
+use Rattle.rx5c_registers.specs.File.{FileState, registers}
+use Rattle.rx5c_registers.proofs.Rows.{sixteen_registers}
 use Rattle.lines.proofs.Buffers.{front_is_line}
 
 -- two digits a byte
@@ -22,12 +22,12 @@ pub line_length : (number : ℕ) (registers : List ℕ) → number < 2 ^ 64 → 
 line_length number registers fits sixteen = simp length-append (omega (arith, length-decimal-le 20 number (omega arith) (omega arith) fits, length_hexadecimal registers))
 
 -- a print record's line, as it stands at the front of a buffer of 64 bytes
-module _ (number : ℕ) (fits : number < 2 ^ 64) (s : PartState) (seven : length s.core.map.cells ≡ 7) (here : List ℕ) (are : here ≡ registers s) where
+module _ (number : ℕ) (fits : number < 2 ^ 64) (f : FileState) (seven : length f.core.map.cells ≡ 7) (here : List ℕ) (are : here ≡ registers f) where
   abbrev pub line : List ℕ
-  line = record_text number (registers s)
+  line = record_text number (registers f)
 
   pub short : length line ≤ 54
-  short = line_length number (registers s) fits (sixteen_registers s seven)
+  short = line_length number (registers f) fits (sixteen_registers f seven)
 
   module _ (out : List ℕ) (answer : Result ℕ Refusal) (wrote : ◌≡◌ {A = Result ℕ Refusal × List ℕ} (answer, out) (record_line number here (replicate 64 0))) (n : ℕ) (ok : answer ≡ Ok n) where
     pub front_is : take (n - 0) out ≡ line

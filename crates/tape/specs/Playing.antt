@@ -2,11 +2,14 @@
 use Rattle.std.specs.Prelude.{ℕ, zero, suc, ◌-◌, ◌/◌, ◌%◌, List, [], ◌∷◌, ◌++◌, length, Ok, Err, Result}
 use Rattle.lines.specs.Lines.{record_text}
 use Rattle.refusals.specs.declared.Refusal.{Refusal}
-use Rattle.rx5c348a.specs.Part.{PartState, load_part, pulse_part, registers}
+use Rattle.rx5c348a.specs.Part.{PartState, load_part, pulse_part}
+use Rattle.rx5c348a.specs.Pins.{pins_part}
+use Rattle.rx5c348a.specs.declared.pins.PinAnswer.{PinAnswer}
+use Rattle.rx5c_registers.specs.File.{registers}
 use Rattle.tape.specs.declared.fault.RecordFault.{RecordFault}
 use Rattle.tape.specs.declared.fault.TapeFault.{TapeFault}
 use Rattle.tape.specs.declared.record.Record.{Record}
-use Rattle.tape.specs.declared.record.Record.TheVariants.{Load, Pulses, Print}
+use Rattle.tape.specs.declared.record.Record.TheVariants.{Load, Pulses, Levels, Print}
 use Rattle.tape.specs.Faults.{of_tape, of_part, at_place}
 use Rattle.tape.specs.Records.{RecordRead, read_record}
 
@@ -31,14 +34,24 @@ tape_weekday moment = (moment / 86400) % 7
 abbrev pub on_part : Bench → Result (Unit {0}) Refusal × PartState → Done
 on_part b did = (did.0, bench did.1 b.printed)
 
+-- a tape does not look at what the pins answer
+abbrev pub unprinted : Result PinAnswer Refusal → Result (Unit {0}) Refusal
+unprinted (Ok answer) = Ok tt
+unprinted (Err refusal) = Err refusal
+
+-- pin levels, as they stand in the record
+abbrev pub give_levels : PartState → ℕ → Result (Unit {0}) Refusal × PartState
+give_levels part levels = (unprinted (pins_part part levels).0, (pins_part part levels).1)
+
 -- a line is added to what is printed; the part stays as it is
 unfoldable pub printing : ℕ → Bench → Done
-printing number b = (Ok tt, bench b.part (b.printed ++ record_text number (registers b.part)))
+printing number b = (Ok tt, bench b.part (b.printed ++ record_text number (registers b.part.file)))
 
 -- what one record does: a load takes trim 0 and 24 hours
 abbrev pub do_record : Record → Bench → Done
 do_record (Load moment) b = on_part b (load_part b.part moment (tape_weekday moment) 0 1)
 do_record (Pulses count) b = on_part b (pulse_part b.part count)
+do_record (Levels levels) b = on_part b (give_levels b.part levels)
 do_record (Print number) b = printing number b
 
 -- The rest of the tape after one record, or why the record is refused; and the bench after it.

@@ -3,9 +3,9 @@ use Rattle.std.specs.Prelude.{ℕ, ◌+◌, ◌*◌, ◌%◌, cond, ◌&&◌, Li
 use Rattle.std.specs.Borrow.{Bor}
 use Rattle.refusals.specs.declared.Refusal.{Refusal}
 use Rattle.tape.specs.declared.record.Kind.{Kind}
-use Rattle.tape.specs.declared.record.Kind.TheVariants.{LoadMoment, GivePulses, PrintRegisters}
+use Rattle.tape.specs.declared.record.Kind.TheVariants.{LoadMoment, GivePulses, GiveLevels, PrintRegisters}
 use Rattle.tape.specs.declared.record.Record.{Record}
-use Rattle.tape.specs.declared.record.Record.TheVariants.{Load, Pulses, Print}
+use Rattle.tape.specs.declared.record.Record.TheVariants.{Load, Pulses, Levels, Print}
 use Rattle.tape.specs.declared.record.TapeRefusal.{TapeRefusal}
 use Rattle.tape.specs.declared.record.TapeRefusal.TheVariants.{UnknownKind, TapeEnds, BadNumber}
 
@@ -15,14 +15,19 @@ refusal_of UnknownKind = Refusal.UnknownKind
 refusal_of TapeEnds = Refusal.TapeEnds
 refusal_of BadNumber = Refusal.BadNumber
 
--- 4Dh loads a moment, 50h gives pulses, 4Ch prints; no other byte begins a record
+-- 4Dh loads a moment, 50h gives pulses, 57h gives pin levels, 4Ch prints; no other byte begins a record
 abbrev pub kind_of : ℕ → Result Kind TapeRefusal
-kind_of byte = cond (byte == 0x4D) (Ok LoadMoment) (cond (byte == 0x50) (Ok GivePulses) (cond (byte == 0x4C) (Ok PrintRegisters) (Err UnknownKind)))
+kind_of byte =
+    cond (byte == 0x4D) (Ok LoadMoment)
+    (cond (byte == 0x50) (Ok GivePulses)
+    (cond (byte == 0x57) (Ok GiveLevels)
+    (cond (byte == 0x4C) (Ok PrintRegisters) (Err UnknownKind))))
 
 -- the record of a kind with a number
 abbrev pub record_of : Kind → ℕ → Record
 record_of LoadMoment number = Load number
 record_of GivePulses number = Pulses number
+record_of GiveLevels number = Levels number
 record_of PrintRegisters number = Print number
 
 -- What a number has read: its value and the rest of the tape, or a refusal.

@@ -5,7 +5,7 @@ use Rattle.refusals.specs.declared.Refusal.{Refusal}
 use Rattle.rx5c348a.specs.Part.{PartState}
 use Rattle.tape.specs.declared.fault.TapeFault.{TapeFault}
 use Rattle.tape.specs.declared.record.Record.{Record}
-use Rattle.tape.specs.declared.record.Record.TheVariants.{Load, Pulses, Print}
+use Rattle.tape.specs.declared.record.Record.TheVariants.{Load, Pulses, Levels, Print}
 use Rattle.tape.specs.declared.record.TapeRefusal.{TapeRefusal}
 use Rattle.tape.specs.Faults.{of_tape, of_part, at_place}
 use Rattle.tape.specs.Playing.{Bench, Outcome, bench, do_record, play_rest}
@@ -24,12 +24,14 @@ number_bytes number = groups_of 4 number
 abbrev pub record_bytes : Record → List ℕ
 record_bytes (Load moment) = 0x4D ∷ number_bytes moment
 record_bytes (Pulses count) = 0x50 ∷ number_bytes count
+record_bytes (Levels levels) = 0x57 ∷ number_bytes levels
 record_bytes (Print number) = 0x4C ∷ number_bytes number
 
 -- the number that a record brings
 abbrev pub number_in : Record → ℕ
 number_in (Load moment) = moment
 number_in (Pulses count) = count
+number_in (Levels levels) = levels
 number_in (Print number) = number
 
 -- records one after the other

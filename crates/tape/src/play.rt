@@ -1,7 +1,7 @@
 // Playing a tape on a part.
 ghost use Rattle.std.specs.Prelude.{◌≡◌, ◌+◌, ◌*◌, ◌<◌, ◌≤◌, length, IfOk, OnOk, vec_len, vec_capacity, MatchResult};
 ghost use Rattle.rx5c348a.specs.Part.{seen, load_part};
-ghost use Rattle.tape.specs.Playing.{bench, printing, do_record, tape_weekday, one_record, with_place, play_rest, rest_after_step};
+ghost use Rattle.tape.specs.Playing.{bench, give_levels, printing, do_record, tape_weekday, one_record, with_place, play_rest, rest_after_step};
 ghost use Rattle.tape.specs.Tapes.{played, play_tape};
 ghost use Rattle.tape.specs.Written.{InOrder};
 
@@ -28,6 +28,14 @@ fn load(moment: u64, part: &mut Rx5c348a) -> Result<(), Refusal>
         trim: 0,
         mode: TWENTY_FOUR_HOURS,
     })
+}
+
+// Gives pin levels. What SO and /INTR then show is not printed.
+fn give_levels(levels: u64, part: &mut Rx5c348a) -> Result<(), Refusal>
+    ensures { (result, seen part.new) ≡ give_levels (seen part.old) levels }
+{
+    part.pins(levels)?;
+    Ok(())
 }
 
 // What is left of a tape that is played, and what it has printed.
@@ -62,6 +70,7 @@ impl Playing<'_> {
         match record {
             Record::Load(moment) => load(moment, part),
             Record::Pulses(count) => part.pulses(count),
+            Record::Levels(levels) => give_levels(levels, part),
             Record::Print(number) => self.print(number, part),
         }
     }

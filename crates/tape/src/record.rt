@@ -11,6 +11,8 @@ pub enum Record {
     Load(u64),
     // give so many pulses
     Pulses(u64),
+    // give these pin levels
+    Levels(u64),
     // print the registers after this number
     Print(u64),
 }
@@ -20,6 +22,7 @@ pub enum Record {
 pub enum Kind {
     LoadMoment,
     GivePulses,
+    GiveLevels,
     PrintRegisters,
 }
 
@@ -55,6 +58,7 @@ impl TryFrom<u8> for Kind {
         match byte {
             0x4D => Ok(Kind::LoadMoment),
             0x50 => Ok(Kind::GivePulses),
+            0x57 => Ok(Kind::GiveLevels),
             0x4C => Ok(Kind::PrintRegisters),
             _ => Err(TapeRefusal::UnknownKind),
         }
@@ -68,6 +72,7 @@ impl Kind {
         match self {
             Kind::LoadMoment => Record::Load(number),
             Kind::GivePulses => Record::Pulses(number),
+            Kind::GiveLevels => Record::Levels(number),
             Kind::PrintRegisters => Record::Print(number),
         }
     }

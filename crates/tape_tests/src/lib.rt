@@ -4,4 +4,8 @@
 #[cfg(test)]
 mod line_buffers;
 #[cfg(test)]
+mod printout;
+#[cfg(test)]
 mod tapes;
+#[cfg(test)]
+mod wires;

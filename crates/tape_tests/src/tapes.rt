@@ -1,28 +1,7 @@
 // What the bench prints of whole tapes.
-use rx5c348a::part::Rx5c348a;
+use crate::printout::prints;
 use std::alloc::Global;
-use std::process::Abort;
 use std::test::Fail;
-use tape::play::play;
-
-// What is printed, and after a fault its line.
-fn printout(heap: Global, tape: &[u8]) -> Result<Vec<u8>, Fail> {
-    let mut part = Rx5c348a::power_on();
-    let mut playback = play(heap, tape, &mut part)?;
-    if let Err(fault) = playback.end {
-        // by the call that makers have too, into a buffer of its caller's
-        let mut line = [0u8; 64];
-        let length = fault.line(&mut line)?;
-        playback.printed.extend_from_slice(&line[..length])?;
-    }
-    Ok(playback.printed)
-}
-
-fn prints(rt: &impl Abort, heap: Global, tape: &[u8], expected: &[u8]) -> Result<(), Fail> {
-    let printed = printout(heap, tape)?;
-    assert_eq!(rt; printed.as_slice(), expected);
-    Ok(())
-}
 
 #[test]
 fn good_tapes(rt: HostRuntime) -> Result<(), Fail> {
@@ -66,13 +45,18 @@ fn good_tapes(rt: HostRuntime) -> Result<(), Fail> {
 
 #[test]
 fn broken_off(rt: HostRuntime) -> Result<(), Fail> {
-    let cases: [(&[u8], &[u8]); 9] = [
+    let cases: [(&[u8], &[u8]); 12] = [
         // after a kind byte
         (b"\x4C", b"fault 12 at 0 in tape\n"),
         // after a kind byte
         (b"\x4D", b"fault 12 at 0 in tape\n"),
         // after a kind byte
         (b"\x50", b"fault 12 at 0 in tape\n"),
+        // after a kind byte
+        (b"\x57", b"fault 12 at 0 in tape\n"),
+        // pin levels that go on, after one group and after four
+        (b"\x57\x84", b"fault 12 at 0 in tape\n"),
+        (b"\x57\x04\x57\x80\x80\x80\x80", b"fault 12 at 2 in tape\n"),
         // after one group with bit 7 set
         (b"\x4C\x80", b"fault 12 at 0 in tape\n"),
         // after two
@@ -100,7 +84,7 @@ fn broken_off(rt: HostRuntime) -> Result<(), Fail> {
 
 #[test]
 fn bad_numbers(rt: HostRuntime) -> Result<(), Fail> {
-    let cases: [(&[u8], &[u8]); 6] = [
+    let cases: [(&[u8], &[u8]); 7] = [
         // five groups with bit 7 set at the very end
         (b"\x4C\x80\x80\x80\x80\x80", b"fault 13 at 0 in tape\n"),
         // and in the middle
@@ -110,6 +94,8 @@ fn bad_numbers(rt: HostRuntime) -> Result<(), Fail> {
         ),
         // a padded second group
         (b"\x4C\x80\x00", b"fault 13 at 0 in tape\n"),
+        // pin levels, padded
+        (b"\x57\x84\x00", b"fault 13 at 0 in tape\n"),
         // a padded third group
         (b"\x50\x81\x80\x00", b"fault 13 at 0 in tape\n"),
         // a padded fifth group
@@ -133,8 +119,8 @@ fn unknown_kinds(rt: HostRuntime) -> Result<(), Fail> {
         (b"\x00", b"fault 11 at 0 in tape\n"),
         // whatever follows
         (b"\x4E\xFF\xFF\xFF\xFF\xFF", b"fault 11 at 0 in tape\n"),
-        // pin levels are no kind yet
-        (b"\x57\x00", b"fault 11 at 0 in tape\n"),
+        // next to the kind of pin levels
+        (b"\x56\x00", b"fault 11 at 0 in tape\n"),
         // after whole records
         (
             b"\x4C\x01\x58\x4C\x02",

@@ -9,7 +9,7 @@ use host_runs::session::HostSession;
 use host_runs::work::{Hosts, work_host_calls};
 use host_sessions::idle::IdleSession;
 use lines::{print_answer, print_buffer, print_call};
-use rx5c348a_whole::part::Rx5c348a;
+use rx5c348a::part::Rx5c348a;
 
 fn fresh_hosts() -> Hosts {
     Hosts {

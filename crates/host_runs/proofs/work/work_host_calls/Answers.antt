@@ -1,6 +1,6 @@
 use Rattle.std.proofs.Common.{sym, refl, ap, ◌∙◌, arith, take_all}
 use Rattle.std.proofs.lemmas.List.{take_more}
-use Rattle.rx5c348a_whole.specs.Part.{seen}
+use Rattle.rx5c348a.specs.Part.{seen}
 use Rattle.rx5c348a_runs.specs.declared.call.WireCall.TheVariants.{Load}
 use Rattle.rx5c348a_runs.proofs.Runs.{part_law}
 use Rattle.host_runs.specs.declared.call.HostCall.TheVariants.{Wire}

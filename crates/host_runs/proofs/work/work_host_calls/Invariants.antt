@@ -1,5 +1,5 @@
 use Rattle.std.proofs.Common.{◌≡◌, ◌≤◌, length, take, vec_items, vec_len, vec_capacity}
-use Rattle.rx5c348a_whole.specs.Part.{seen}
+use Rattle.rx5c348a.specs.Part.{seen}
 use Rattle.host_runs.specs.Hosts.{seat, host_state, host_run}
 use Rattle.host_runs.proofs.work.work_host_calls.Given as goal
 

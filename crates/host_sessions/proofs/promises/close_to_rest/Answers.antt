@@ -1,4 +1,4 @@
-use Rattle.rx5c348a_whole.specs.Part.{seen}
+use Rattle.rx5c348a.specs.Part.{seen}
 use Rattle.host_wires.specs.Record.{Wired, wired}
 use Rattle.host_sessions.specs.Sessions.{closed}
 use Rattle.host_sessions.proofs.DrivenLaws.{close_driven}

@@ -1,5 +1,5 @@
 use Rattle.std.proofs.Common.{ap, arith}
-use Rattle.rx5c348a_whole.specs.Part.{seen}
+use Rattle.rx5c348a.specs.Part.{seen}
 use Rattle.host_wires.specs.Record.{Wired, wired}
 use Rattle.host_wires.proofs.Turns.{in_turn_none, in_turn_more, in_turn_all, all_arrive}
 use Rattle.host_wires.proofs.record.PinRecord.shift_bytes_in.Goals as goal

@@ -1,5 +1,5 @@
 use Rattle.std.proofs.Common.{ap, ◌∙◌, eqb, arith}
-use Rattle.rx5c348a_whole.specs.Part.{seen}
+use Rattle.rx5c348a.specs.Part.{seen}
 use Rattle.host_wires.specs.Record.{Wired, wired}
 use Rattle.host_wires.proofs.Clocks.{in_more, in_done}
 use Rattle.host_wires.proofs.Wholes.{arrives}

@@ -1,5 +1,5 @@
 use Rattle.std.proofs.Common.{◌≡◌}
-use Rattle.rx5c348a_whole.specs.Part.{seen}
+use Rattle.rx5c348a.specs.Part.{seen}
 use Rattle.host_wires.specs.Record.{wired}
 use Rattle.host_wires.specs.Shifting.{bits_in, low_levels, byte_in}
 use Rattle.host_wires.proofs.record.PinRecord.shift_in.Given as goal

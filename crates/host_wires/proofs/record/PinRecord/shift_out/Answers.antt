@@ -1,6 +1,6 @@
 use Rattle.std.proofs.Common.{ap, ◌∙◌, arith}
 use Rattle.serial_transfer.specs.Levels.{taken}
-use Rattle.rx5c348a_whole.specs.Part.{seen}
+use Rattle.rx5c348a.specs.Part.{seen}
 use Rattle.host_wires.specs.Record.{wired}
 use Rattle.host_wires.proofs.Clocks.{out_more, out_done}
 use Rattle.host_wires.proofs.Wholes.{stands_there}

@@ -1,5 +1,5 @@
 use Rattle.std.proofs.Common.{◌≡◌, ◌-◌}
-use Rattle.rx5c348a_whole.specs.Part.{seen}
+use Rattle.rx5c348a.specs.Part.{seen}
 use Rattle.host_wires.specs.Record.{wired}
 use Rattle.host_wires.proofs.Clocks.{spelt_on}
 use Rattle.host_wires.proofs.record.PinRecord.shift_out.Given as goal

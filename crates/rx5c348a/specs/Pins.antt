@@ -7,10 +7,10 @@ use Rattle.serial_transfer.specs.declared.phase.Landing.{Landing}
 use Rattle.serial_transfer.specs.Rules.{fresh_header, awaits, due_in, out_in, risen, fallen}
 use Rattle.rx5c_registers.specs.File.{FileState, registers, written, interrupts, has}
 use Rattle.rx5c_registers.specs.Clock.{held, released}
-use Rattle.rx5c348a_whole.specs.declared.pins.Level.{Level}
-use Rattle.rx5c348a_whole.specs.declared.pins.Level.TheVariants.{Low, High}
-use Rattle.rx5c348a_whole.specs.declared.pins.PinAnswer.{PinAnswer}
-use Rattle.rx5c348a_whole.specs.Part.{PartState}
+use Rattle.rx5c348a.specs.declared.pins.Level.{Level}
+use Rattle.rx5c348a.specs.declared.pins.Level.TheVariants.{Low, High}
+use Rattle.rx5c348a.specs.declared.pins.PinAnswer.{PinAnswer}
+use Rattle.rx5c348a.specs.Part.{PartState}
 
 -- a level as a number
 abbrev pub level_number : Level → ℕ

@@ -1,7 +1,7 @@
 // The four wires and /INTR.
 ghost use Rattle.std.specs.Prelude.{◌≡◌};
-ghost use Rattle.rx5c348a_whole.specs.Pins.{answer_in, level_number, awaits_header, ce_risen, ce_fallen, sclk_risen, sclk_fallen, driven, pins_part};
-ghost use Rattle.rx5c348a_whole.specs.Part.{seen};
+ghost use Rattle.rx5c348a.specs.Pins.{answer_in, level_number, awaits_header, ce_risen, ce_fallen, sclk_risen, sclk_fallen, driven, pins_part};
+ghost use Rattle.rx5c348a.specs.Part.{seen};
 
 use crate::part::Rx5c348a;
 use refusals::Refusal;
