@@ -1,4 +1,4 @@
--- Moments: whole seconds counted from 00:00:00 on 1 January of year 0.
+-- Moments: the seconds since the cycle began, at midnight before 1 January of year 0.
 use Rattle.std.specs.Prelude.{ℕ, ◌+◌, ◌*◌, ◌/◌, ◌%◌, Bool, true, false, ◌==◌}
 use Rattle.calendar.specs.Dates.{CivilDate, LawfulDate, day_number, date_of_day, next_date, year_start}
 use Rattle.calendar.specs.Times.{ClockTime, LawfulTime, second_of_day, time_of_second, next_time}

@@ -2,7 +2,7 @@
 use Rattle.std.specs.Prelude.{ℕ, ◌-◌, ◌%◌, Bool, cond, ◌&&◌, List, [], ◌∷◌, map, ◌==◌, slice_index}
 use Rattle.std.specs.List.{range_with_len}
 
--- A year is leap when its last two digits are a multiple of 4, in either century.
+-- Every fourth year is leap, the years 00 of both centuries among them.
 abbrev pub leap : ℕ → Bool
 leap year = year % 4 == 0
 

@@ -8,7 +8,7 @@ use crate::time_of_day::TimeOfDay;
 
 const SECONDS_OF_A_DAY: u64 = 86_400;
 
-// The seconds since 00:00:00 on 1 January of year 0.
+// The seconds since the cycle began, at midnight before 1 January of year 0.
 pub fn moment_at(on: Date, at: TimeOfDay) -> u64
     ensures { result ≡ moment_of (civil (date_of on) (time_of at)) }
 {

@@ -28,7 +28,7 @@ at_position s p = record { map = s.map; trim = s.trim; position = p; second = s.
 abbrev pub waiting : CoreState → Bool → CoreState
 waiting s w = record { map = s.map; trim = s.trim; position = s.position; second = s.second; held = s.held; waits = w }
 
--- The seconds value that fixes a length: a waiting boundary counts as applied.
+-- The seconds value by which the length of a second is chosen, a boundary that waits being counted.
 abbrev pub counted_value : Chart → Bool → Shown → ℕ
 counted_value c waits p = cond waits (second_of (second_after c p)) (second_of p)
 
@@ -44,7 +44,7 @@ begin_second c s =
       waits = s.waits;
     }
 
--- Released, a boundary advances the map; held, it waits, and is lost where one waits already.
+-- A boundary moves the map on, or waits where the core is held; a second one in a stretch is lost.
 abbrev pub cross_boundary : Chart → CoreState → CoreState
 cross_boundary c s = begin_second c (cond s.held (waiting s true) (with_map s (advanced c s.map)))
 
@@ -81,7 +81,7 @@ run_to_boundary c s n =
 abbrev pub registers : CoreState → List ℕ
 registers s = s.map.cells ++ replicate (16 - length s.map.cells) 0
 
--- Sixteen registers copied to the front of a buffer; the rest of it stays. A shorter one is refused.
+-- A buffer that begins with the sixteen registers; what lies behind them stays. One too short for them is refused.
 abbrev pub copied_front : List ℕ → List ℕ → Accepted × List ℕ
 copied_front sixteen buffer = cond (nat_lt (length buffer) 16) (Err ShortBuffer, buffer) (Ok tt, sixteen ++ drop 16 buffer)
 

@@ -22,7 +22,7 @@ fn value_after(value: u8) -> u8
 }
 
 impl<M: RegisterMap> ClockCore<M> {
-    // The seconds value that fixes a length: a waiting boundary counts as applied.
+    // The seconds value by which the length of a second is chosen, a boundary that waits being counted.
     fn counted_seconds(&self) -> Option<u8>
         ensures { result ≡ option_map (counted_value M.RegisterMap.chart (meant M.RegisterMap self.now).waits) (shown_by M.RegisterMap.chart (meant M.RegisterMap self.now).map) }
     {
@@ -43,7 +43,7 @@ impl<M: RegisterMap> ClockCore<M> {
         self.position = 0;
     }
 
-    // Released, a boundary advances the map; held, it waits, and is lost where one waits already.
+    // A boundary moves the map on, or waits where the core is held; a second one in a stretch is lost.
     fn cross_boundary(&mut self)
         ensures { meant M.RegisterMap self.new ≡ cross_boundary M.RegisterMap.chart (meant M.RegisterMap self.old) }
     {

@@ -8,7 +8,7 @@ use refusals::Refusal;
 use register_map::map::RegisterMap;
 use std::array;
 
-// Copies sixteen registers to the front of a buffer; the rest of it stays.
+// Puts the sixteen registers first in a buffer; what lies behind them stays.
 pub fn copy_front(sixteen: &[u8; 16], buffer: &mut [u8]) -> Result<(), Refusal>
     ensures { (result, buffer.new) ≡ copied_front sixteen.now buffer.old }
 {
@@ -26,7 +26,7 @@ pub trait Registers {
     fn registers(&self) -> [u8; 16]
         ensures { result ≡ row self.now };
 
-    // Copies registers 0 to 15 to the front of a buffer.
+    // Puts registers 0 to 15 first in a buffer.
     fn look(&self, buffer: &mut [u8]) -> Result<(), Refusal>
         ensures { (result, buffer.new) ≡ copied_front (row self.now) buffer.old }
     {

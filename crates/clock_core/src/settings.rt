@@ -21,7 +21,7 @@ impl<M: RegisterMap> ClockCore<M> {
         self.map.set_hour_mode(to);
     }
 
-    // Drops a waiting boundary and begins a second.
+    // A second begins anew; a boundary that waits is gone.
     pub fn restart_second(&mut self)
         ensures { meant M.RegisterMap self.new ≡ restart_second M.RegisterMap.chart (meant M.RegisterMap self.old) }
     {

@@ -39,7 +39,7 @@ pub(crate) fn give(core: &mut ClockCore<ByteMap>, count: u32) -> Result<(), Fail
     Ok(())
 }
 
-// The whole seconds in so many pulses, one by one: second i is trimmed where value + i is a multiple of 20.
+// The whole seconds in so many pulses, one by one: those that begin at 0, 20 and 40 are trimmed.
 pub(crate) fn whole_seconds(a: i64, value: u32, pulses: u32) -> u64 {
     let mut left = i64::from(pulses);
     for i in 0..1_000u64 {

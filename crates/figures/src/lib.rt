@@ -1,4 +1,4 @@
-// The figures of the makers' data sheet that are proved.
+// The figures that docs/FIGURES.md marks as proved.
 #![tactic(auto)]
 
 ghost use Rattle.figures.specs.Figures.{Figures};

@@ -12,7 +12,7 @@ unfoldable pub all_driven : List ℕ → PartState → PartState
 all_driven [] p = p
 all_driven (l ∷ ls) p = all_driven ls (pins_part p l).1
 
--- One bit: SCLK high, then low, both with CE high and its SI.
+-- One bit: a pulse of SCLK under a high CE, SI at the bit throughout.
 abbrev pub bit_levels : Bool → List ℕ
 bit_levels si = levels (pin_record true true si) ∷ levels (pin_record true false si) ∷ []
 

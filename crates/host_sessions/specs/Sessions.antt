@@ -52,7 +52,7 @@ header_for p address format =
 abbrev pub rested : PinRecord → PinRecord
 rested pins = pin_record pins.ce false false
 
--- A transfer has ended, served or refused: SCLK and SI rest low in the pin record.
+-- After a transfer, refused or not, the pin record has SCLK and SI low.
 abbrev pub ended : Wired → Wired
 ended w = wired (rested w.pins) w.part
 

@@ -4,7 +4,7 @@ ghost use Rattle.host_sessions.specs.Sessions.{rested};
 
 use host_wires::record::PinRecord;
 
-// SCLK and SI rest low in the pin record once this ends, on whatever way.
+// Lowers SCLK and SI in the pin record as it ends, on whatever way out.
 pub(crate) struct Rest<'a> {
     pub(crate) pins: &'a mut PinRecord,
 }

@@ -4,7 +4,7 @@ use Rattle.rx5c_registers.specs.File.{bit_if}
 use Rattle.rx5c348a.specs.Part.{PartState}
 use Rattle.host_wires.specs.declared.record.PinRecord.{PinRecord}
 
--- The levels as a part takes them: 4 for CE, 2 for SCLK and 1 for SI, added.
+-- The record as one number, the weights being those of the part: CE 4, SCLK 2, SI 1.
 abbrev pub levels : PinRecord → ℕ
 levels pins = bit_if pins.ce 4 + bit_if pins.sclk 2 + bit_if pins.si 1
 

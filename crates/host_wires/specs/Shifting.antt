@@ -1,4 +1,4 @@
--- Bits and bytes on the wires, as the levels that the host drives. A bit is SCLK high, then low, with CE high.
+-- Bits and bytes on the wires, as the levels that the host drives. A bit is one pulse of SCLK while CE is high.
 use Rattle.std.specs.Prelude.{ℕ, zero, suc, Bool, true, false, List, [], ◌∷◌, Ok, Err, Result, ◌==◌}
 use Rattle.refusals.specs.declared.Refusal.{Refusal}
 use Rattle.serial_transfer.specs.declared.phase.SerialOut.{SerialOut}

@@ -1,4 +1,4 @@
-// Bits and bytes shifted in and out: a bit is SCLK high, then low, with CE high.
+// Bits and bytes shifted in and out, a pulse of SCLK for each bit while CE is high.
 // The part is passed at each call, since a pin record holds only what a host knows: levels, by value.
 // The loops are not those of a transfer, which answers what landed: a host only hears SO.
 ghost use Rattle.std.specs.Prelude.{◌≡◌};

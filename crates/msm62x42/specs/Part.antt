@@ -14,12 +14,12 @@ use Rattle.msm62x42.specs.declared.part.Msm62x42.{Msm62x42}
 abbrev pub seen : Msm62x42 → CoreState
 seen p = core_by (λ m. map_state m.cells.digits m.mode) p.core
 
--- Dh: HOLD in bit 0, and in bit 1 BUSY, its opposite
+-- Dh: 1 is HOLD, 2 is BUSY, and one of them is up
 abbrev pub hold_register : Bool → ℕ
 hold_register true = 1
 hold_register false = 2
 
--- Fh: the hour mode in bit 2
+-- Fh: 4 in 24-hour mode
 abbrev pub mode_register : HourMode → ℕ
 mode_register Twelve = 0
 mode_register TwentyFour = 4
@@ -54,7 +54,7 @@ hour_mode_of number = cond (number / 4 % 2 == 1) TwentyFour Twelve
 abbrev pub hold_written : CoreState → ℕ → CoreState
 hold_written s number = cond (number % 2 == 1) (hold_core s).1 (release_core digit_chart s).1
 
--- all other bits of Dh to Fh ignore writes
+-- what else is written to Dh, Eh and Fh has no effect
 abbrev pub control_written : CoreState → ℕ → ℕ → CoreState
 control_written s address number =
     cond (address == 13) (hold_written s number) (cond (address == 15) (set_core_mode s (hour_mode_of number)) s)

@@ -4,7 +4,7 @@ use Rattle.register_map.specs.declared.hour_mode.HourMode.{HourMode}
 use Rattle.register_map.specs.declared.shown.Shown.{Shown}
 
 -- What a map states: how many cells, its cycle in seconds, the used bits of each cell,
--- the cells for a moment and weekday in a mode, and what given cells show in a mode.
+-- how its cells spell what is shown in either mode, and what they show when they stand so.
 pub record Chart : Type 0 where
   pub count : ℕ
   pub cycle : ℕ
@@ -32,7 +32,7 @@ pub record Lawful (c : Chart) : Type 0 where
   pub code_shows : (m : HourMode) (p : Shown) → Showable c p → c.reads m (c.code m p) ≡ Some p
   -- what cells show has them as its code
   pub shown_is_coded : (m : HourMode) (cells : List ℕ) (p : Shown) → c.reads m cells ≡ Some p → (c.code m p ≡ cells) × Showable c p
-  -- two different pairs never have equal code in one mode
+  -- in one mode, cells spell one moment and weekday only
   pub codes_differ : (m : HourMode) (p q : Shown) → Showable c p → Showable c q → c.code m p ≡ c.code m q → p ≡ q
 
 -- The cells and the hour mode of a map.
@@ -71,7 +71,7 @@ set_mode s to = map_state s.cells to
 abbrev pub showing : Chart → MapState → Shown → MapState
 showing c s p = map_state (c.code s.mode p) s.mode
 
--- a map that shows none stays as it is
+-- nothing shown, nothing moved
 abbrev pub advanced_from : Chart → MapState → Option Shown → MapState
 advanced_from c s None = s
 advanced_from c s (Some p) = showing c s (second_after c p)

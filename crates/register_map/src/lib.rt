@@ -1,5 +1,5 @@
 // What a register map means: its cells, its hour mode and the moment and weekday that it shows, or none.
-// The core is written once over this meaning; each map proves it.
+// One core runs over any map that proves this meaning.
 #![tactic(auto)]
 
 pub mod hour_mode;

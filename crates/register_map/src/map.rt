@@ -46,7 +46,7 @@ pub trait RegisterMap {
         requires { Showable chart at }
         ensures { state self.new ≡ showing chart (state self.old) at };
 
-    // One second on, round the cycle; a map that shows none stays as it is.
+    // One second on, round the cycle; nothing moves where nothing is shown.
     fn advance(&mut self)
         ensures { state self.new ≡ advanced chart (state self.old) };
 

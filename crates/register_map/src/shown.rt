@@ -1,5 +1,5 @@
 // What a map shows.
-// A moment counts whole seconds from the start of the map's cycle; a weekday is 0 to 6.
+// The moment is in seconds since the map's cycle began; a weekday is 0 to 6.
 #[derive(Clone, Copy, PartialEq, Eq, Debug)]
 pub struct Shown {
     pub moment: u64,

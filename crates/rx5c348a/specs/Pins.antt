@@ -21,7 +21,7 @@ level_number High = 1
 abbrev pub answer_in : PartState → PinAnswer
 answer_in p = record { so = out_in p.phase; intr = cond (interrupts p.file) Low High }
 
--- CE is high, SCLK is low, and no bit of a header is in yet.
+-- Selected, SCLK down, and the next bit would be the first of a header.
 abbrev pub awaits_header : PartState → Bool
 awaits_header p = awaits p.phase && not p.sclk
 
@@ -63,7 +63,7 @@ driven p ce sclk si =
     cond (differ ce p.ce) (cond ce (ce_risen p) (ce_fallen p))
     (cond (differ sclk p.sclk) (cond sclk (sclk_risen p) (sclk_fallen p si)) p)
 
--- Pin levels: 4 for CE, 2 for SCLK and 1 for SI, added.
+-- The levels in one number: CE weighs 4, SCLK 2 and SI 1.
 abbrev pub levels_taken : PartState → ℕ → Result PinAnswer Refusal × PartState
 levels_taken p levels =
     cond (nat_lt 7 levels) (Err NoSuchLevels, p)

@@ -53,7 +53,7 @@ impl Rx5c348a {
         PinAnswer { so, intr }
     }
 
-    // CE is high, SCLK is low, and no bit of a header is in yet.
+    // Selected, SCLK down, and the next bit would be the first of a header.
     pub fn awaits_header(&self) -> bool
         ensures { result ≡ awaits_header (seen self.now) }
     {
@@ -69,7 +69,7 @@ impl Rx5c348a {
         self.transfer.begin();
     }
 
-    // Lets the calendar go, drops an unfinished byte and turns SO off.
+    // Lets the calendar go; the transfer ends where it stands, and SO goes off.
     fn ce_falls(&mut self)
         ensures { seen self.new ≡ ce_fallen (seen self.old) }
     {
@@ -90,7 +90,7 @@ impl Rx5c348a {
         self.transfer.rise(due_byte);
     }
 
-    // A bit is taken from SI; a written byte lands at its eighth.
+    // A bit is taken from SI; the eighth of a written byte lands it.
     fn sclk_falls(&mut self, si: u8)
         ensures { seen self.new ≡ sclk_fallen (seen self.old) si }
     {

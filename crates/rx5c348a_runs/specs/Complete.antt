@@ -38,7 +38,7 @@ pub record EighthFall (p : PartState) (levels address byte : ℕ) : Type 0 where
   pub falls : has levels 2 ≡ false
   pub whole : byte ≡ taken gathered (bit_and levels 1)
 
--- A landed byte disturbs the timekeeping: it goes to a calendar cell or the trim, or brings another hour mode.
+-- A landed byte disturbs the timekeeping where it goes to register 0 to 7, or to Eh with another hour mode.
 pub data Disturbs (mode : HourMode) (address byte : ℕ) : Type 0 where
   CalendarOrTrim : address < 8 → Disturbs mode address byte
   OtherHourMode : address ≡ 14 → same_mode mode (hour_mode_in (masked 14 byte)) ≡ false → Disturbs mode address byte

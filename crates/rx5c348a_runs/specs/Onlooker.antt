@@ -28,7 +28,7 @@ asked address (Some SingleRead) = ReadFrom address false
 asked address (Some BurstRead) = ReadFrom address true
 asked address None = Unheard
 
--- What follows a whole byte: a burst goes on at the next address, 0 after Fh; a single one is over.
+-- What follows a whole byte: in a burst the byte of the next register, round from Fh to 0; else a header.
 abbrev pub next_after : Next → ℕ → Next
 next_after AHeader byte = asked (byte / 16) (format_coded (byte % 16))
 next_after (WriteTo address true) byte = WriteTo ((address + 1) % 16) true
@@ -84,7 +84,7 @@ given_by (WriteTo _ _) byte = Nothing
 given_by (ReadFrom address _) byte = cond (nat_lt address 7) (Gave (one_cell address byte)) Nothing
 given_by Unheard byte = Nothing
 
--- A byte that lands: in a calendar cell or the trim, or in the hour mode, which may stand already.
+-- A byte that lands in a register of the timekeeping; the hour mode may be the one that stands.
 abbrev pub landed_by : HourMode → Next → ℕ → Sight
 landed_by mode AHeader byte = Nothing
 landed_by mode (WriteTo address _) byte =

@@ -237,3 +237,20 @@ fn hours_are_compared_as_they_stand(rt: HostRuntime) -> Result<(), Fail> {
     }
     Ok(())
 }
+
+// Set anew as a host does it: disabled, written, enabled. It rings at the new time and not at the old one.
+#[test]
+fn an_alarm_is_set_anew(rt: HostRuntime) -> Result<(), Fail> {
+    let mut part = part_before_the_alarm()?;
+    write_register(&mut part, 0xE, 0x20)?;
+    write_burst(&mut part, 8, &[0x01, 0x14, 0x20])?;
+    write_register(&mut part, 0xE, 0xA0)?;
+    run(&mut part, SECOND)?;
+    assert_eq!(rt; time_of(&part)?, on_friday([0x00, 0x00, 0x14]));
+    assert_eq!(rt; read_register(&rt, &mut part, 0xF)?, 0);
+    run(&mut part, 30 * SECOND)?;
+    run(&mut part, 30 * SECOND)?;
+    assert_eq!(rt; time_of(&part)?, on_friday([0x00, 0x01, 0x14]));
+    assert_eq!(rt; read_register(&rt, &mut part, 0xF)?, WAFG);
+    Ok(())
+}

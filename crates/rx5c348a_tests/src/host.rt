@@ -81,7 +81,7 @@ pub(crate) fn lower_ce(part: &mut Rx5c348a) -> Result<(u8, u8), Fail> {
     drive(part, 0)
 }
 
-// One bit: SCLK high, then low, both with its SI; answers SO after each.
+// Pulses SCLK with SI at one bit; answers SO after its rise and after its fall.
 pub(crate) fn clock(part: &mut Rx5c348a, si: u8) -> Result<(u8, u8), Fail> {
     let (high, _) = drive(part, CE + SCLK + u64::from(si % 2))?;
     let (low, _) = drive(part, CE + u64::from(si % 2))?;

@@ -52,7 +52,7 @@ fn part_with_flags(rt: &impl Abort) -> Result<Rx5c348a, Fail> {
     Ok(part)
 }
 
-// XSTP, WAFG and DAFG are cleared by 0 and left by 1; /INTR is low while an alarm's flag is up. VDET reads 0.
+// A 0 takes XSTP, WAFG and DAFG down, a 1 does not; /INTR is low while an alarm's flag is up. VDET reads 0.
 #[test]
 fn every_byte_in_the_flags(rt: HostRuntime) -> Result<(), Fail> {
     for byte in 0..256u32 {
@@ -130,7 +130,11 @@ fn the_length_of_a_begun_second(rt: HostRuntime) -> Result<(), Fail> {
         (0x20, 0x7E, 32_764),
         (0x40, 0x3F, 32_892),
         (0x40, 0x42, 32_644),
+        (0x00, 0x01, 32_768),
         (0x00, 0x41, 32_768),
+        // a crystal 0.8 Hz fast, and one 5.83 Hz slow
+        (0x20, 0x09, 32_784),
+        (0x40, 0x46, 32_652),
         (0x01, 0x07, 32_768),
         // no such seconds
         (0x60, 0x07, 32_768),
@@ -215,7 +219,7 @@ fn a_refused_load_drops_nothing(rt: HostRuntime) -> Result<(), Fail> {
     Ok(())
 }
 
-// With CE low a halt sets XSTP and zeroes 7, Eh and the rest of Fh; the time, the alarms' times and the second stay.
+// A halt of an unselected part: XSTP is up, trim, control and the other flags are zero; the time, the alarms' times and the second stay.
 #[test]
 fn halt_with_ce_low(rt: HostRuntime) -> Result<(), Fail> {
     let mut part = part_with_flags(&rt)?;

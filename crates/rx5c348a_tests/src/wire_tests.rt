@@ -11,7 +11,7 @@ fn unheard(rt: &impl Abort, part: &mut rx5c348a::part::Rx5c348a, byte: u8) -> Re
     Ok(())
 }
 
-// A written byte lands at its eighth fall, not at the rise before.
+// The eighth fall lands a written byte, and not the rise before it.
 #[test]
 fn a_byte_lands_at_its_eighth_fall(rt: HostRuntime) -> Result<(), Fail> {
     let mut part = part_at(0, TWENTY_FOUR)?;
@@ -255,5 +255,17 @@ fn no_read_is_torn(rt: HostRuntime) -> Result<(), Fail> {
         lower_ce(&mut part)?;
         assert_eq!(rt; time_of(&part)?, time_after(pulses + 7));
     }
+    Ok(())
+}
+
+// Cells read under one CE each belong to several moments: 59, 59 of 13 o'clock and the hour after it spell 14:59:59.
+#[test]
+fn reads_in_pieces_are_torn(rt: HostRuntime) -> Result<(), Fail> {
+    let mut part = part_at(50_399, TWENTY_FOUR)?;
+    run(&mut part, SECOND - 1)?;
+    assert_eq!(rt; read_register(&rt, &mut part, 0)?, 0x59);
+    assert_eq!(rt; read_register(&rt, &mut part, 1)?, 0x59);
+    run(&mut part, 1)?;
+    assert_eq!(rt; read_register(&rt, &mut part, 2)?, 0x14);
     Ok(())
 }

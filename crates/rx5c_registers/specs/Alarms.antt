@@ -18,7 +18,7 @@ with_flag row flag =
 abbrev pub rung : ℕ → ℕ → ℕ → AlarmRow → AlarmRow
 rung minute hour weekday row = with_flag row (row.flag || (row.enabled && comes_up row minute hour weekday))
 
--- Disabling a row clears its flag.
+-- A row that is turned off has no flag up.
 abbrev pub enabled_to : Bool → AlarmRow → AlarmRow
 enabled_to to row =
     record { minute = row.minute; hour = row.hour; days = row.days; enabled = to; flag = row.flag && to }

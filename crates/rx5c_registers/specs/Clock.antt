@@ -73,11 +73,11 @@ abbrev pub after_load : FileState → Accepted × CoreState → Accepted × File
 after_load f (Ok u, core) = (Ok u, loaded_with core)
 after_load f (Err why, core) = (Err why, f)
 
--- Load shows a moment and weekday, sets trim and hour mode, and zeroes the rest; a refused one leaves all as it was.
+-- A load begins the clock at what it is given, all else being zero; a refused one leaves all as it was.
 abbrev pub load : FileState → ℕ → ℕ → ℕ → ℕ → Accepted × FileState
 load f moment weekday trim mode = after_load f (load_core byte_chart f.core moment weekday trim mode)
 
--- A halt sets XSTP and zeroes 7, Eh and the rest of Fh; the cells and the alarm registers stay, and so does the running second.
+-- The oscillator stopped: XSTP is up, trim, control and other flags are zero; cells, alarm registers and the running second stay.
 abbrev pub halted : FileState → FileState
 halted f =
     record {

@@ -87,7 +87,7 @@ upper_registers f =
 abbrev pub registers : FileState → List ℕ
 registers f = f.core.map.cells ++ upper_registers f
 
--- The used bits of registers 0 to Fh; the others read 0.
+-- Which bits each register has, from 0 on; the others read 0.
 abbrev pub used_bits : List ℕ
 used_bits =
     0x7F ∷ 0x7F ∷ 0x3F ∷ 0x07 ∷ 0x3F ∷ 0x9F ∷ 0xFF ∷ 0x7F ∷ 0x7F ∷ 0x3F ∷ 0x7F ∷ 0x7F ∷ 0x3F ∷ 0x00 ∷ 0xF7 ∷ 0xBF ∷ []
@@ -102,7 +102,7 @@ has byte mask = not ((bit_and byte mask) == 0)
 abbrev pub cell_put : CoreState → ℕ → ℕ → CoreState
 cell_put s cell byte = with_map s (put_byte byte_chart s.map cell byte)
 
--- Registers 0 to 6: writing the seconds drops a waiting boundary and begins a second.
+-- A cell of the map: with the seconds a second begins anew, and a boundary that waits is gone.
 abbrev pub cell_written : FileState → ℕ → ℕ → FileState
 cell_written f cell byte =
     with_core f (cond (cell == 0) (restart_second byte_chart (cell_put f.core cell byte)) (cell_put f.core cell byte))
@@ -166,6 +166,6 @@ written f address byte = put_in f address (masked address byte)
 abbrev pub look_at : FileState → List ℕ → Accepted × List ℕ
 look_at f buffer = copied_front (registers f) buffer
 
--- /INTR is pulled low exactly when WAFG or DAFG is 1.
+-- One of the alarm flags pulls /INTR low.
 abbrev pub interrupts : FileState → Bool
 interrupts f = cond (alarm f 0).flag true (alarm f 1).flag

@@ -37,7 +37,7 @@ impl AlarmRow {
         }
     }
 
-    // Disabling a row clears its flag.
+    // A row that is turned off has no flag up.
     pub fn enable(&mut self, to: bool)
         ensures { self.new ≡ enabled_to to self.old }
     {

@@ -8,7 +8,7 @@ use crate::reading::{ALARM_D, ALARM_W, DAFG, DALE, TWENTY_FOUR_HOURS, WAFG, WALE
 use register_map::hour_mode::HourMode;
 use register_map::map::RegisterMap;
 
-// The used bits of registers 0 to Fh.
+// Which bits each register has.
 const USED_BITS: [u8; 16] = [
     0x7F, 0x7F, 0x3F, 0x07, 0x3F, 0x9F, 0xFF, 0x7F, 0x7F, 0x3F, 0x7F, 0x7F, 0x3F, 0x00, 0xF7, 0xBF,
 ];

@@ -1,4 +1,4 @@
--- What a fault names: the refusal, the place of its record, and whether tape or part refused.
+-- What a fault names: the refusal, the place of its record, and who refused it.
 use Rattle.std.specs.Prelude.{ℕ}
 use Rattle.lines.specs.declared.origin.Origin.TheVariants.{Tape, Part}
 use Rattle.refusals.specs.declared.Refusal.{Refusal}

@@ -1,4 +1,4 @@
--- How one record is read: a kind byte, a number in groups of seven bits, and then the rest of the tape.
+-- How one record is taken off the front of a tape: its kind in a byte, its number in groups of seven bits.
 use Rattle.std.specs.Prelude.{ℕ, ◌+◌, ◌*◌, ◌%◌, cond, ◌&&◌, List, [], ◌∷◌, Ok, Err, Result, ◌==◌, nat_lt}
 use Rattle.std.specs.Borrow.{Bor}
 use Rattle.refusals.specs.declared.Refusal.{Refusal}
@@ -39,7 +39,7 @@ abbrev pub low_group : ℕ → NumberRead → NumberRead
 low_group low (Ok read) = Ok (low + 128 * read.0, read.1)
 low_group low (Err e) = Err e
 
--- A number after `before` of its groups: seven bits each, lowest first, bit 7 set in all but the last.
+-- A number after `before` of its groups of seven bits, the lowest before the higher; bit 7 says that another follows.
 -- There are at most five, and a last group of 0 stands alone.
 unfoldable pub groups_after : ℕ → List ℕ → NumberRead
 groups_after before [] = Err TapeEnds

@@ -7,11 +7,11 @@ use Rattle.tape.specs.declared.fault.TapeFault.{TapeFault}
 use Rattle.tape.specs.declared.play.Playback.{Playback}
 use Rattle.tape.specs.Playing.{Outcome, bench, play_rest}
 
--- the fault of a tape over 4,096 bytes: it stands at the first byte too many
+-- the fault of too long a tape stands at the first byte too many
 abbrev pub too_long : TapeFault
 too_long = record { refusal = TapeTooLong; place = 4096; origin = Tape }
 
--- A tape over 4,096 bytes is refused before any record runs; any other is played from its first byte on, nothing printed yet.
+-- Too long a tape plays nothing; any other is played from its first byte on, with nothing printed yet.
 abbrev pub play_tape : List ℕ → PartState → Outcome
 play_tape tape part = cond (nat_lt 4096 (length tape)) (Err too_long, bench part []) (play_rest (length tape) tape (bench part []))
 

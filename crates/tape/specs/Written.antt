@@ -11,7 +11,7 @@ use Rattle.tape.specs.Faults.{of_tape, of_part, at_place}
 use Rattle.tape.specs.Playing.{Bench, Outcome, bench, do_record, play_rest}
 use Rattle.tape.specs.Records.{read_record}
 
--- A number in groups of seven bits, lowest first: at most `more` with bit 7 set, and then the last.
+-- A number written by sevens of its bits, from the lowest: at most `more` groups that say another follows, and the last.
 unfoldable pub groups_of : ℕ → ℕ → List ℕ
 groups_of zero number = number ∷ []
 groups_of (suc more) number = cond (nat_lt number 128) (number ∷ []) ((128 + number % 128) ∷ groups_of more (number / 128))

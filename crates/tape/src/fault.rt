@@ -16,7 +16,7 @@ pub struct RecordFault {
     pub origin: Origin,
 }
 
-// A fault: why, at which byte the record begins, and whether tape or part refused.
+// Why a tape stopped, at which byte the record begins, and who refused it.
 // Flat: its fields are public, and programs print them.
 #[derive(Clone, Copy, PartialEq, Eq, Debug)]
 pub struct TapeFault {

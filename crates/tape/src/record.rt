@@ -1,4 +1,4 @@
-// Reading one record: a kind byte, a number, and then the rest of the tape.
+// One record is taken off the front of a tape.
 ghost use Rattle.std.specs.Prelude.{◌≡◌, ◌+◌, ◌*◌, ◌%◌, ◌^◌, ◌≤◌, length, IfOk};
 ghost use Rattle.tape.specs.Records.{number_view, record_view, refusal_of, kind_of, record_of, read_number, read_record};
 
@@ -86,7 +86,7 @@ fn weighed(group: u8, place: usize) -> u64
     u64::from(group % 128) << (7 * place)
 }
 
-// A number from the front of the tape, and the rest: groups of seven bits, lowest first, bit 7 set in all but the last.
+// A number from the front of the tape, and what follows it. Bit 7 of a group says that another, of higher bits, follows.
 fn read_number(tape: &[u8]) -> Result<(u64, &[u8]), TapeRefusal>
     ensures { number_view result ≡ read_number tape.now }
 {

@@ -15,7 +15,7 @@ fn push_levels(tape: &mut Vec<u8>, levels: u8) -> Result<(), Fail> {
     Ok(())
 }
 
-// The first bits of a byte, highest first: each is SCLK high, then low, both with CE high and its SI.
+// The first bits of a byte, from the highest: two records for each, SCLK up and down, with CE high and SI at the bit.
 fn push_bits(tape: &mut Vec<u8>, byte: u8, count: usize) -> Result<(), Fail> {
     let mut rest = byte;
     for _ in 0..count {

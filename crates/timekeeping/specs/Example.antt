@@ -14,7 +14,7 @@ use Rattle.timekeeping.specs.Logs.{log_of, answers_in, Undisturbed, ShortStretch
 abbrev pub example_calls : List CoreCall
 example_calls = Hold ∷ Pulses 32644 ∷ Look 16 ∷ Release ∷ []
 
--- With the trim 42h a second that begins at seconds value 0, 20 or 40 has 32,644 pulses: the stretch reaches its end.
+-- With the trim 42h the second at 0 has 32,644 pulses: the stretch reaches its end.
 abbrev pub example_core : Chart → MapState → CoreState
 example_core c m = new_core c m 0x42
 

@@ -1,5 +1,5 @@
 -- The law of timekeeping over lists of calls: what the calendar shows, how far pulses and seconds may drift,
--- and what cells read in one held stretch have in common.
+-- and what one held stretch gives out of the calendar.
 use Rattle.std.specs.Prelude.{◌≡◌, ℕ, ◌<◌, false, List, [], ◌∷◌, ◌++◌, pos, neg_ℤ, ◌≤ℤ◌, Some, Option, slice_index}
 use Rattle.std.specs.List.{AllByRecursion}
 use Rattle.register_map.specs.declared.shown.Shown.{Shown}
@@ -32,17 +32,17 @@ calendar m c start log = shown_by c (m.core (state_after m start log)).map
 
 -- What stands after a log that began with a newly made core.
 pub record Timekeeping (m : Machine) (c : Chart) (start : m.State) (new : NewlyMade c (m.core start)) (log : Log m) : Type 0 where
-  -- n, the whole trimmed seconds in all pulses taken
+  -- n: how many seconds, each of its own length, the pulses taken fill
   pub n : ℕ
   pub whole_seconds : WholeSeconds new.trim (second_of new.shown) (pulses_taken (sights_of m new.map.mode log)) n
-  -- released, the calendar is n seconds past its start, round its cycle
+  -- while it runs, the calendar has gone n seconds on from the start
   pub calendar_follows_whole_seconds : is_held (sights_of m new.map.mode log) ≡ false → calendar m c start log ≡ Some (seconds_past c n new.shown)
-  -- held, it is where the stretch found it
+  -- while it is held the calendar is what it was before the hold
   pub calendar_stands_while_held : (s : Stretch m new.map.mode log) → s.later ≡ [] → calendar m c start log ≡ calendar m c start s.before
   -- pulses and seconds stay together
   pub drift_not_below : neg_ℤ (pos 2356) ≤ℤ drift new.trim (pulses_taken (sights_of m new.map.mode log)) n
   pub drift_not_above : drift new.trim (pulses_taken (sights_of m new.map.mode log)) n ≤ℤ pos 657820
-  -- calendar cells read in one held stretch all equal those in the code of what was shown when it began
+  -- every calendar cell that a held stretch gives out spells the one moment and weekday shown as it began
   pub reads_in_a_stretch_agree :
       (s : Stretch m new.map.mode log) (p : Shown) → calendar m c start s.before ≡ Some p → AllByRecursion (GivenFrom (c.code new.map.mode p)) (sights_after m new.map.mode (s.hold ∷ s.before) s.stretch)
 

@@ -13,7 +13,7 @@ pub data Sight : Type 0 where
   Held : Sight
   -- the core was released
   Released : Sight
-  -- a calendar cell or the trim was written, or the hour mode changed
+  -- a cell of the calendar, the trim or the hour mode was set from outside
   Wrote : Sight
   -- bytes were given out as calendar cells: which byte as which cell
   Gave : (ℕ → Option ℕ) → Sight
@@ -44,7 +44,7 @@ machine_of {Call} {Answer} {State} step core sight =
 abbrev pub Log : Machine → Type 0
 Log m = List (Heard m.Call m.Answer)
 
--- the machine after the calls of a log, each starting from what the one before left
+-- the machine after the calls of a log, one upon the other
 unfoldable pub state_after : (m : Machine) → m.State → Log m → m.State
 state_after m start [] = start
 state_after m start (h ∷ log) = (m.step (state_after m start log) h.call).1
@@ -134,11 +134,11 @@ pub record Stretch (m : Machine) (mode : HourMode) (log : Log m) : Type 0 where
   pub holds : m.sight mode before hold ≡ Held
   pub unreleased : AllByRecursion (λ x. is_release x ≡ false) (sights_after m mode (hold ∷ before) stretch)
 
--- No accepted call writes a calendar cell or the trim or changes the hour mode.
+-- Nothing in the log sets cells, trim or hour mode from outside.
 abbrev pub Undisturbed : (m : Machine) → HourMode → Log m → Type 0
 Undisturbed m mode log = AllByRecursion (λ x. is_write x ≡ false) (sights_of m mode log)
 
--- No held stretch takes more than 32,644 pulses.
+-- From each hold to its release 32,644 pulses are taken at most.
 abbrev pub ShortStretches : (m : Machine) → HourMode → Log m → Type 0
 ShortStretches m mode log =
     (s : Stretch m mode log) → pulses_taken (sights_after m mode (s.hold ∷ s.before) s.stretch) ≤ 32644
