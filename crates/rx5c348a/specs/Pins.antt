@@ -23,7 +23,7 @@ answer_in p = record { so = out_in p.phase; intr = cond (interrupts p.file) Low 
 
 -- Selected, SCLK down, and the next bit would be the first of a header.
 abbrev pub awaits_header : PartState → Bool
-awaits_header p = awaits p.phase && not p.sclk
+awaits_header p = (p.ce && awaits p.phase) && not p.sclk
 
 -- CE rises: the core is held, and a header follows.
 abbrev pub ce_risen : PartState → PartState

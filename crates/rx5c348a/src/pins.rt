@@ -57,7 +57,7 @@ impl Rx5c348a {
     pub fn awaits_header(&self) -> bool
         ensures { result ≡ awaits_header (seen self.now) }
     {
-        self.transfer.awaits_header() && !self.sclk
+        self.ce && self.transfer.awaits_header() && !self.sclk
     }
 
     // Holds the calendar; a header follows.

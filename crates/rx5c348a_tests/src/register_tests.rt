@@ -72,7 +72,7 @@ fn every_byte_in_the_flags(rt: HostRuntime) -> Result<(), Fail> {
     Ok(())
 }
 
-// Each write of Eh with an enable bit 0 clears that alarm's flag; enabling it again does not bring it back.
+// A 0 written to an enable bit takes that alarm's flag down; enabling it again does not bring it back.
 #[test]
 fn disabling_clears_the_flag(rt: HostRuntime) -> Result<(), Fail> {
     for (control, flags) in [(0xE0, 0x13), (0xA0, 0x12), (0x60, 0x11), (0x20, 0x10)] {

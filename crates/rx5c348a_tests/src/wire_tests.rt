@@ -107,7 +107,7 @@ fn sclk_moves_with_ce_low(rt: HostRuntime) -> Result<(), Fail> {
     Ok(())
 }
 
-// CE rises with SCLK high: the next fall takes the first bit, and no header is awaited before it.
+// SCLK is high as CE rises: a header begins at the fall after it, and none is awaited before.
 #[test]
 fn ce_rises_with_sclk_high(rt: HostRuntime) -> Result<(), Fail> {
     let mut part = part_at(0, TWENTY_FOUR)?;
