@@ -70,11 +70,11 @@ pub(crate) fn clear_flags(part: &mut Rx5c348a, cleared: u8) -> Result<(), Refusa
 // Hour, minute and second, while pulses come between the reads.
 pub(crate) fn read_time_slowly(part: &mut Rx5c348a, pulses: u64) -> Result<[u8; 3], Refusal> {
     in_session(part, |session, part| {
-        let hour = session.read(part, 2);
-        let _ = part.pulses(pulses);
-        let minute = session.read(part, 1);
-        let _ = part.pulses(pulses);
-        let second = session.read(part, 0);
-        Ok([hour?, minute?, second?])
+        let hour = session.read(part, 2)?;
+        part.pulses(pulses)?;
+        let minute = session.read(part, 1)?;
+        part.pulses(pulses)?;
+        let second = session.read(part, 0)?;
+        Ok([hour, minute, second])
     })
 }

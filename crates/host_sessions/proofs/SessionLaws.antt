@@ -9,7 +9,9 @@ use Rattle.serial_transfer.specs.declared.phase.Phase.{Phase}
 use Rattle.serial_transfer.specs.declared.phase.Phase.TheVariants.{Write, Read}
 use Rattle.serial_transfer.specs.Rules.{format_coded, data_at, fallen}
 use Rattle.rx5c_registers.specs.File.{FileState, written}
+use Rattle.rx5c_registers.specs.Standing.{StandsIn}
 use Rattle.rx5c_registers.specs.Clock.{held}
+use Rattle.rx5c_registers.proofs.Standing.{written_stands}
 use Rattle.rx5c348a.specs.Part.{PartState}
 use Rattle.rx5c348a.specs.Pins.{awaits_header, with_landing, pins_part}
 use Rattle.host_wires.specs.declared.record.PinRecord.{PinRecord}
@@ -19,7 +21,7 @@ use Rattle.host_wires.specs.Laws.{ready_in, byte_at, written_in_turn, registers_
 use Rattle.serial_transfer.proofs.Wholes.{halves}
 use Rattle.host_wires.proofs.Wholes.{header_in, data_in, register_out}
 use Rattle.host_wires.proofs.Turns.{all_arrive, all_stand_there}
-use Rattle.host_sessions.specs.Sessions.{closing, opening, header_for, ended, read_after, reading, write_after, writing, burst_read_after, burst_reading, burst_write_after, burst_writing}
+use Rattle.host_sessions.specs.Sessions.{accepted, closing, opening, header_for, ended, read_after, reading, write_after, writing, burst_read_after, burst_reading, burst_write_after, burst_writing}
 use Rattle.host_sessions.specs.Laws.{awaiting, Opens, Closes, ReadIsWhatStands, WrittenArrives, BurstIsWhatStands, BurstArrives}
 
 abbrev part_of : FileState → Bool → Bool → Phase → PartState
@@ -116,13 +118,14 @@ reads address w v answer e =
         ∙ ap (λ (p : PartState). let s : ℕ × Wired = byte_out (wired (byte_in header u).pins p) in (Ok s.0, ended s.1)) (heard f w.pins address 12 few (lit< tt))
         ∙ ap (λ (s : ℕ × Wired). (Ok s.0, ended s.1)) (register_out f address false 0 Off (byte_in header u).pins)
 
-pub writes : (address byte : ℕ) (w v : Wired) (answer : Accepted) → byte < 256 → ◌≡◌ {A = Accepted × Wired} (answer, v) (writing address byte w) → WrittenArrives address byte w.part answer v.part
-writes address byte w v answer small e =
+pub writes : (address byte : ℕ) (w v : Wired) (answer : Accepted) → byte < 256 → length w.part.file.core.map.cells ≡ 7 → length w.part.file.alarms ≡ 2 → ◌≡◌ {A = Accepted × Wired} (answer, v) (writing address byte w) → WrittenArrives address byte w.part answer v.part
+writes address byte w v answer small seven two e =
     record {
-      lands = λ f few awaits.
-          let all = e ∙ ap (λ (p : PartState). writing address byte (wired w.pins p)) awaits
-          ∙ ap (λ (r : Result ℕ Refusal). write_after r byte (wired w.pins (awaiting f))) (admitted f address 8 few) in
-          (ap (λ (s : Accepted × Wired). s.0) all, ap (λ (s : Accepted × Wired). s.1.part) all ∙ landed f few);
+      lands = arrived;
+      stands = λ f few awaits.
+          let cells : length f.core.map.cells ≡ 7 = sym (ap (λ (p : PartState). length p.file.core.map.cells) awaits) ∙ seven in
+          let rows : length f.alarms ≡ 2 = sym (ap (λ (p : PartState). length p.file.alarms) awaits) ∙ two in
+          subst (λ (p : PartState). StandsIn f address byte p.file) (sym (arrived f few awaits).1) (written_stands f address byte cells rows small);
       no_register = λ many. refused NoSuchCell (over w.part address 8 many);
       no_header = λ few none. refused NoHeaderAwaited (unawaited w.part address 8 none ∙ ap Err (not_over address few));
     }
@@ -137,6 +140,12 @@ writes address byte w v answer small e =
         let u : Wired = byte_in (16 * address + 8) (wired w.pins (awaiting f)) in
         ap (λ (p : PartState). (byte_in byte (wired u.pins p)).part) (heard f w.pins address 8 few (lit< tt))
         ∙ data_in f byte address false u.pins small
+
+    arrived : (f : FileState) → address ≤ 15 → w.part ≡ awaiting f → (answer ≡ accepted) × (v.part ≡ awaiting (written f address byte))
+    arrived f few awaits =
+        let all = e ∙ ap (λ (p : PartState). writing address byte (wired w.pins p)) awaits
+        ∙ ap (λ (r : Result ℕ Refusal). write_after r byte (wired w.pins (awaiting f))) (admitted f address 8 few) in
+        (ap (λ (s : Accepted × Wired). s.0) all, ap (λ (s : Accepted × Wired). s.1.part) all ∙ landed f few)
 
 pub burst_reads : (address : ℕ) (buffer : List ℕ) (w v : Wired) (moved : ℕ) (filled : List ℕ) → ◌≡◌ {A = ℕ × List ℕ × Wired} (moved, filled, v) (burst_reading address buffer w) → BurstIsWhatStands address buffer w.part moved filled v.part
 burst_reads address buffer w v moved filled e =

@@ -6,6 +6,7 @@ use Rattle.clock_core.specs.Core.{Accepted}
 use Rattle.serial_transfer.specs.declared.phase.Phase.TheVariants.{Idle, Write}
 use Rattle.serial_transfer.specs.Rules.{fresh_header}
 use Rattle.rx5c_registers.specs.File.{FileState, written}
+use Rattle.rx5c_registers.specs.Standing.{StandsIn}
 use Rattle.rx5c_registers.specs.Clock.{held, released}
 use Rattle.rx5c348a.specs.Part.{PartState, at_rest}
 use Rattle.rx5c348a.specs.Pins.{awaits_header, sclk_fallen}
@@ -53,6 +54,8 @@ pub record ReadIsWhatStands (address : ℕ) (before : PartState) (answer : Resul
 pub record WrittenArrives (address byte : ℕ) (before : PartState) (answer : Accepted) (after : PartState) : Type 0 where
   -- where a header is awaited, the byte is written by its register's rule, and a header is awaited again
   pub lands : (f : FileState) → address ≤ 15 → before ≡ awaiting f → (answer ≡ accepted) × (after ≡ awaiting (written f address byte))
+  -- so it stands there, its unused bits cleared
+  pub stands : (f : FileState) → address ≤ 15 → before ≡ awaiting f → StandsIn f address byte after.file
   pub no_register : 15 < address → (answer ≡ Err NoSuchCell) × (after ≡ before)
   pub no_header : address ≤ 15 → awaits_header before ≡ false → (answer ≡ Err NoHeaderAwaited) × (after ≡ before)
 

@@ -1,6 +1,7 @@
-// Sessions opened over a part that raw levels left in the middle of a transfer.
+// Sessions opened or closed over a part that raw levels left in the middle of a transfer.
 use crate::host::*;
 use host_sessions::idle::IdleSession;
+use refusals::Refusal;
 use rx5c348a::part::Rx5c348a;
 use rx5c348a::pins::{CE, SCLK};
 use std::process::Abort;
@@ -74,6 +75,85 @@ fn opening_lands_a_byte(rt: HostRuntime) -> Result<(), Fail> {
     part.pins(CE + SCLK + 1)?;
     opens_well(&rt, &mut part, 0);
     assert_eq!(rt; look(&part)?, on_friday([0x00, 0x54, 0x00]));
+    Ok(())
+}
+
+// SCLK is high with some bits of a header in: its fall takes one more, and with seven in it makes the header whole.
+// Nothing comes of it.
+#[test]
+fn opened_within_a_header_with_sclk_high(rt: HostRuntime) -> Result<(), Fail> {
+    for header in [0x78, 0x70, 0x7C, 0x74, 0x72] {
+        for bits in 0..8u8 {
+            let mut part = part_at(0)?;
+            write_one(&mut part, 7, 0x55)?;
+            let before = look(&part)?;
+            part.pins(CE)?;
+            clock_bits(&mut part, header, bits)?;
+            part.pins(CE + SCLK + 1)?;
+            opens_well(&rt, &mut part, 0x55);
+            assert_eq!(rt; look(&part)?, before);
+        }
+    }
+    Ok(())
+}
+
+// After each number of bits of read data, from a single and a burst read at every address, SCLK low and high.
+#[test]
+fn opened_within_read_data(rt: HostRuntime) -> Result<(), Fail> {
+    for address in 0..16u8 {
+        for format in [0xC, 0x4] {
+            for bits in 0..9u8 {
+                for high in [false, true] {
+                    let mut part = part_at(50_399)?;
+                    write_one(&mut part, 7, 0x55)?;
+                    let before = look(&part)?;
+                    part.pins(CE)?;
+                    clock_bits(&mut part, 16 * address + format, 8)?;
+                    clock_bits(&mut part, 0xFF, bits)?;
+                    if high {
+                        part.pins(CE + SCLK)?;
+                    }
+                    opens_well(&rt, &mut part, 0x55);
+                    assert_eq!(rt; look(&part)?, before);
+                }
+            }
+        }
+    }
+    Ok(())
+}
+
+// A single write but for its last fall: SCLK stays high.
+fn clock_but_the_last_fall(part: &mut Rx5c348a, header: u8, byte: u8) -> Result<(), Refusal> {
+    clock_bits(part, header, 8)?;
+    clock_bits(part, byte, 7)?;
+    part.pins(CE + SCLK + 1)?;
+    Ok(())
+}
+
+// Closing lowers SCLK first, which lands the byte, its lowest bit 0; then the part is let go.
+#[test]
+fn closing_lands_a_byte(rt: HostRuntime) -> Result<(), Fail> {
+    let mut part = part_at(0)?;
+    let session = IdleSession::new().open(&mut part);
+    let clocked = clock_but_the_last_fall(&mut part, 0x78, 0x55);
+    let before = look(&part);
+    let left = session.close(&mut part).end().levels();
+    clocked?;
+    assert_eq!(rt; before?, on_friday([0x00, 0x00, 0x00]));
+    assert_eq!(rt; left, 0);
+    assert!(rt; !part.ce && !part.sclk && !part.registers.core.is_held());
+    assert_eq!(rt; byte_or_number(read_one(&mut part, 7)), Ok(0x54));
+    // the byte lands before the boundary that waits comes through: 13:59:59 becomes 13:54:59, and then 13:55:00
+    let mut part = part_at(50_399)?;
+    let session = IdleSession::new().open(&mut part);
+    let given = part.pulses(SECOND);
+    let clocked = clock_but_the_last_fall(&mut part, 0x18, 0x55);
+    session.close(&mut part).end();
+    given?;
+    clocked?;
+    assert_eq!(rt; look(&part)?, on_friday([0x00, 0x55, 0x13]));
+    part.pulses(SECOND)?;
+    assert_eq!(rt; look(&part)?, on_friday([0x01, 0x55, 0x13]));
     Ok(())
 }
 

@@ -4,6 +4,8 @@
 #[cfg(test)]
 mod carry_tests;
 #[cfg(test)]
+mod date_tests;
+#[cfg(test)]
 mod hold_tests;
 #[cfg(test)]
 mod host;

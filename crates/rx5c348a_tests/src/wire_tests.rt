@@ -1,10 +1,11 @@
 // The edges of CE and SCLK, one by one.
 use crate::host::*;
+use rx5c348a::part::Rx5c348a;
 use std::process::Abort;
 use std::test::Fail;
 
 // A byte of which no bit is heard, and none given.
-fn unheard(rt: &impl Abort, part: &mut rx5c348a::part::Rx5c348a, byte: u8) -> Result<(), Fail> {
+fn unheard(rt: &impl Abort, part: &mut Rx5c348a, byte: u8) -> Result<(), Fail> {
     for bit in bits(byte) {
         assert_eq!(rt; clock(part, bit)?, (OFF, OFF));
     }
@@ -254,6 +255,50 @@ fn no_read_is_torn(rt: HostRuntime) -> Result<(), Fail> {
         assert_eq!(rt; time, time_after(pulses));
         lower_ce(&mut part)?;
         assert_eq!(rt; time_of(&part)?, time_after(pulses + 7));
+    }
+    Ok(())
+}
+
+// A pulse of SCLK, and a pulse of the crystal after each of its levels; answers SO after the rise.
+fn clock_slowly(part: &mut Rx5c348a, si: u8) -> Result<u8, Fail> {
+    let (so, _) = drive(part, CE + SCLK + u64::from(si % 2))?;
+    run(part, 1)?;
+    drive(part, CE + u64::from(si % 2))?;
+    run(part, 1)?;
+    Ok(so)
+}
+
+// All sixteen registers from a burst: a header and sixteen bytes, so 272 levels, each with its pulse.
+fn read_all_slowly(rt: &impl Abort, part: &mut Rx5c348a) -> Result<[u8; 16], Fail> {
+    raise_ce(part)?;
+    for bit in bits(BURST_READ) {
+        assert_eq!(rt; clock_slowly(part, bit)?, OFF);
+    }
+    let mut registers = [0u8; 16];
+    for register in &mut registers {
+        for _ in 0..8u8 {
+            let so = clock_slowly(part, 0)?;
+            assert!(rt; so < 2);
+            *register = (*register << 1) | so;
+        }
+    }
+    Ok(registers)
+}
+
+// All sixteen registers, with a pulse after each level: the carry comes before the header, at each level of it and of the bytes, and after them.
+// The cells still spell the moment at which CE rose.
+#[test]
+fn no_read_is_torn_at_any_level(rt: HostRuntime) -> Result<(), Fail> {
+    const LEVELS: u64 = 272;
+    for k in 0..LEVELS + 120 {
+        let pulses = SECOND - LEVELS - 60 + k;
+        let mut part = part_at(50_399, TWENTY_FOUR)?;
+        run(&mut part, pulses)?;
+        let [a, b, c, d, e, f, g, rest @ ..] = read_all_slowly(&rt, &mut part)?;
+        assert_eq!(rt; [a, b, c, d, e, f, g], time_after(pulses));
+        assert_eq!(rt; rest, [0, 0, 0, 0, 0, 0, 0, 0x20, 0]);
+        lower_ce(&mut part)?;
+        assert_eq!(rt; time_of(&part)?, time_after(pulses + LEVELS));
     }
     Ok(())
 }

@@ -12,6 +12,6 @@ returns c =
     let after : Wired = wired c.write_single.new.pins (seen c.write_single.new.part) in
     record {
       value = c.write_single.ensures;
-      law = writes c.args.address c.args.byte before after c.write_single.result c.ranges.byte.fits c.write_single.ensures;
+      law = writes c.args.address c.args.byte before after c.write_single.result c.ranges.byte.fits c.args.part.now.registers.core.map.cells.seven c.args.part.now.registers.two_rows c.write_single.ensures;
       driven = write_driven c.args.address c.args.byte before after c.write_single.result c.write_single.ensures;
     }
