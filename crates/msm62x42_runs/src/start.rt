@@ -1,9 +1,11 @@
 // Where the law begins.
+ghost use Rattle.std.specs.Prelude.{true, ◌≡◌};
 ghost use Rattle.msm62x42_runs.specs.Start.{LoadedIsNew};
 
 // Says that the law begins where an accepted load leaves a part.
 pub fn loaded_is_new() -> bool
-    ensures { LoadedIsNew }
+    ensures law { LoadedIsNew }
+    ensures answer { result ≡ true }
 {
     true
 }

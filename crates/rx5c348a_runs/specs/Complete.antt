@@ -1,6 +1,7 @@
--- Nothing escapes the onlooker: every calendar cell that a part gives out, and every byte that it takes for its calendar
--- or trim, is among his sights. What happens is told here by the part's own state, not by his notes.
-use Rattle.std.specs.Prelude.{◌≡◌, ℕ, ◌<◌, ◌≤◌, Bool, true, false, List, Some, Option, bit_and, slice_index}
+-- Nothing escapes the onlooker: every calendar cell that a part gives out, every byte that it takes for its calendar or
+-- trim, and every rise and fall of CE is among his sights, and he sees no others. What happens is told here by the part's
+-- own state, not by his notes.
+use Rattle.std.specs.Prelude.{◌≡◌, ℕ, ◌<◌, ◌≤◌, Bool, true, false, not, List, Some, Option, bit_and, slice_index}
 use Rattle.register_map.specs.declared.hour_mode.HourMode.{HourMode}
 use Rattle.serial_transfer.specs.declared.phase.SerialOut.{SerialOut}
 use Rattle.serial_transfer.specs.declared.phase.Phase.TheVariants.{Write, Read}
@@ -8,7 +9,7 @@ use Rattle.serial_transfer.specs.Levels.{taken}
 use Rattle.rx5c_registers.specs.File.{has, masked, hour_mode_in}
 use Rattle.rx5c348a.specs.Part.{PartState}
 use Rattle.timekeeping.specs.CoreCalls.{same_mode, one_cell}
-use Rattle.timekeeping.specs.Logs.{Sight, Wrote, Gave, state_after, log_of}
+use Rattle.timekeeping.specs.Logs.{Sight, Held, Released, Wrote, Gave, state_after, log_of}
 use Rattle.rx5c348a_runs.specs.declared.call.WireCall.{WireCall}
 use Rattle.rx5c348a_runs.specs.declared.call.WireCall.TheVariants.{Pins, Look}
 use Rattle.rx5c348a_runs.specs.Calls.{do_call, notes, call_sight, part_machine}
@@ -50,6 +51,20 @@ pub record Disturbance (mode : HourMode) (p : PartState) (levels : ℕ) : Type 0
   pub lands : EighthFall p levels address byte
   pub disturbs : Disturbs mode address byte
 
+-- What gives calendar cells out: the eighth rise of one's byte, and a look with room enough.
+pub data GivesOut (p : PartState) (call : WireCall) : Type 0 where
+  ByRead : (levels cell byte : ℕ) → call ≡ Pins levels → EighthRise p levels cell byte → GivesOut p call
+  ByLook : (room : ℕ) → call ≡ Look room → 16 ≤ room → GivesOut p call
+
+-- CE goes from the level that the part has to the other one, and SCLK stays.
+pub record CeGoes (to : Bool) (p : PartState) (call : WireCall) : Type 0 where
+  pub levels : ℕ
+  pub drives : call ≡ Pins levels
+  pub no_others : levels ≤ 7
+  pub was : p.ce ≡ not to
+  pub goes : has levels 4 ≡ to
+  pub sclk_stays : has levels 2 ≡ p.sclk
+
 -- every calendar cell is given out, as it stands
 pub record WholeCalendar (p : PartState) (sight : Sight) : Type 0 where
   pub bytes : ℕ → Option ℕ
@@ -73,6 +88,14 @@ pub record AllIsSeen (mode : HourMode) (start : PartState) (calls : List WireCal
   -- he sees a write where a byte that disturbs lands, and at no other levels
   pub writes : (levels : ℕ) → Disturbance mode (part_after start calls) levels → sight_after mode start calls (Pins levels) ≡ Wrote
   pub no_other_writes : (levels : ℕ) → sight_after mode start calls (Pins levels) ≡ Wrote → Disturbance mode (part_after start calls) levels
+  -- he sees cells given out by such a read or look, and by no other call
+  pub no_other_reads : (call : WireCall) (bytes : ℕ → Option ℕ) → sight_after mode start calls call ≡ Gave bytes → GivesOut (part_after start calls) call
+  -- he sees a hold where CE rises, and at no other call
+  pub holds : (call : WireCall) → CeGoes true (part_after start calls) call → sight_after mode start calls call ≡ Held
+  pub no_other_holds : (call : WireCall) → sight_after mode start calls call ≡ Held → CeGoes true (part_after start calls) call
+  -- he sees a release where CE falls, and at no other call
+  pub releases : (call : WireCall) → CeGoes false (part_after start calls) call → sight_after mode start calls call ≡ Released
+  pub no_other_releases : (call : WireCall) → sight_after mode start calls call ≡ Released → CeGoes false (part_after start calls) call
 
 -- After every list of calls on a loaded part, with the hour mode that it was loaded with.
 abbrev pub EverythingIsSeen : Type 0

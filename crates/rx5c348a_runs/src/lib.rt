@@ -3,4 +3,5 @@
 
 pub mod call;
 pub mod example;
+pub mod sights;
 pub mod start;
