@@ -1,1 +1,4 @@
 pub mod Wires
+pub mod GivenCells
+pub mod SessionReads
+pub mod EighthRises

@@ -1,16 +1,16 @@
 -- Each call of hosts as the calls that it makes on the part: a call of a session is the levels that it drives.
-use Rattle.std.specs.Prelude.{ℕ, min, List, [], ◌∷◌, ◌++◌, map, length}
+use Rattle.std.specs.Prelude.{◌≡◌, ℕ, min, List, [], ◌∷◌, ◌++◌, map, length}
 use Rattle.rx5c348a.specs.Part.{PartState}
 use Rattle.rx5c348a_runs.specs.declared.call.WireCall.{WireCall}
 use Rattle.rx5c348a_runs.specs.declared.call.WireCall.TheVariants.{Pins}
 use Rattle.rx5c348a_runs.specs.Calls.{part_machine}
-use Rattle.timekeeping.specs.Logs.{state_after, log_of}
+use Rattle.timekeeping.specs.Logs.{Log, state_after, log_of}
 use Rattle.host_sessions.specs.Driven.{levels_of_open, levels_of_close, levels_of_read, levels_of_write, levels_of_burst_read, levels_of_burst_write}
 use Rattle.host_runs.specs.declared.call.SessionCall.{SessionCall}
 use Rattle.host_runs.specs.declared.call.SessionCall.TheVariants.{Open, Close, Read, Write, BurstRead, BurstWrite}
 use Rattle.host_runs.specs.declared.call.HostCall.{HostCall}
 use Rattle.host_runs.specs.declared.call.HostCall.TheVariants.{Wire, First, Second}
-use Rattle.host_runs.specs.Hosts.{Seat, IdleSeat, OpenSeat, SpentSeat, HostState, work_one}
+use Rattle.host_runs.specs.Hosts.{Seat, IdleSeat, OpenSeat, SpentSeat, HostState, work_one, host_run}
 
 abbrev pub idle_levels : PartState → SessionCall → List ℕ
 idle_levels p Open = levels_of_open p
@@ -42,6 +42,12 @@ session_levels (IdleSeat _) p room call = idle_levels p call
 session_levels (OpenSeat _) p room call = open_levels p room call
 session_levels (SpentSeat _) p room call = spent_levels p call
 
+-- the levels that the end of a session drives
+abbrev pub ending_levels : Seat → PartState → List ℕ
+ending_levels (IdleSeat _) p = []
+ending_levels (OpenSeat _) p = levels_of_close p
+ending_levels (SpentSeat _) p = levels_of_close p
+
 abbrev pub wire_calls_of : HostState → HostCall → List WireCall
 wire_calls_of s (Wire call) = call ∷ []
 wire_calls_of s (First call) = map Pins (session_levels s.first s.part (length s.buffer) call)
@@ -55,3 +61,23 @@ on_wires s (call ∷ calls) = wire_calls_of s call ++ on_wires (work_one s call)
 -- the part after calls on it
 abbrev pub part_after : PartState → List WireCall → PartState
 part_after p calls = state_after part_machine p (log_of part_machine p calls)
+
+-- the part after levels on it
+abbrev pub part_after_levels : PartState → List ℕ → PartState
+part_after_levels p levels = part_after p (map Pins levels)
+
+-- After the first calls of a list.
+pub record LevelsSoFar (s : HostState) (calls earlier : List HostCall) : Type 0 where
+  -- the part is as what these make on the wires leaves it
+  pub part : (host_run s earlier).1.part ≡ part_after s.part (on_wires s earlier)
+  -- the whole list begins on the wires with what these make there
+  pub rest : List WireCall
+  pub begins : on_wires s calls ≡ on_wires s earlier ++ rest
+  -- so what was heard by then is an earlier part of its log
+  pub later : Log part_machine
+  pub heard : log_of part_machine s.part (on_wires s calls) ≡ later ++ log_of part_machine s.part (on_wires s earlier)
+
+-- The same after each call of a list, and before the first.
+abbrev pub LevelsAfterEachCall : HostState → List HostCall → Type 0
+LevelsAfterEachCall s calls =
+    (earlier later : List HostCall) → calls ≡ earlier ++ later → LevelsSoFar s calls earlier

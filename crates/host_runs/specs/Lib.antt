@@ -1,3 +1,4 @@
 pub mod Hosts
 pub mod Levels
 pub mod Standing
+pub mod Reads

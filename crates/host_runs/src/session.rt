@@ -1,8 +1,10 @@
 // A session whose state is known only as its calls come, one by one.
-ghost use Rattle.std.specs.Prelude.{◌≡◌};
+ghost use Rattle.std.specs.Prelude.{◌≡◌, length};
 ghost use Rattle.rx5c348a.specs.Part.{seen};
 ghost use Rattle.host_wires.specs.Record.{wired};
 ghost use Rattle.host_runs.specs.Hosts.{stepped, seat, session_ended, burst_front, idle_step, open_step, spent_step, session_step};
+ghost use Rattle.host_runs.specs.Levels.{session_levels, ending_levels, part_after_levels};
+ghost use Rattle.host_runs.specs.Reads.{CellsAreHeard, CellsAgree};
 
 use crate::call::{HostAnswer, SessionCall};
 use host_sessions::idle::IdleSession;
@@ -96,14 +98,17 @@ fn step_spent(
 }
 
 impl HostSession {
-    // One call, as far as the session's state takes it.
+    // One call, as far as the session's state takes it. It is its levels, however many sessions there are.
     pub fn step(
         self,
         part: &mut Rx5c348a,
         call: SessionCall<'_>,
         buffer: &mut [u8],
     ) -> (HostSession, Result<HostAnswer, Refusal>)
-        ensures { stepped result.1 (seat result.0) (seen part.new) buffer.new ≡ session_step (seat self) (seen part.old) buffer.old call.entry }
+        ensures value { stepped result.1 (seat result.0) (seen part.new) buffer.new ≡ session_step (seat self) (seen part.old) buffer.old call.entry }
+        ensures levels { seen part.new ≡ part_after_levels (seen part.old) (session_levels (seat self) (seen part.old) (length buffer.old) call.entry) }
+        ensures heard { CellsAreHeard (seen part.old) (session_levels (seat self) (seen part.old) (length buffer.old) call.entry) call.entry result.1 buffer.new }
+        ensures reads { CellsAgree (seen part.old) call.entry result.1 buffer.new }
     {
         match self {
             HostSession::Idle(session) => step_idle(session, part, call),
@@ -114,7 +119,8 @@ impl HostSession {
 
     // Closes what is open, and ends.
     pub fn end(self, part: &mut Rx5c348a) -> PinRecord
-        ensures { wired result (seen part.new) ≡ session_ended (seat self) (seen part.old) }
+        ensures value { wired result (seen part.new) ≡ session_ended (seat self) (seen part.old) }
+        ensures levels { seen part.new ≡ part_after_levels (seen part.old) (ending_levels (seat self) (seen part.old)) }
     {
         match self {
             HostSession::Idle(session) => session.end(),

@@ -7,7 +7,8 @@ ghost use Rattle.rx5c348a_runs.specs.Start.{AtRest};
 ghost use Rattle.rx5c348a.specs.Part.{seen};
 ghost use Rattle.host_runs.specs.Hosts.{work_one, host_run};
 ghost use Rattle.host_runs.specs.Standing.{standing};
-ghost use Rattle.host_runs.specs.Levels.{on_wires, part_after};
+ghost use Rattle.host_runs.specs.Levels.{on_wires, part_after, LevelsAfterEachCall};
+ghost use Rattle.host_runs.specs.Reads.{SessionReadsAreHeard, SessionReadsAgree};
 
 use crate::call::{HostAnswer, HostCall};
 use crate::session::HostSession;
@@ -63,7 +64,10 @@ pub fn work_host_calls(
 ) -> (Hosts, Result<Vec<Result<HostAnswer, Refusal>>, AllocError>)
     ensures answers { MatchResult result.1 (λ v. host_run (standing hosts (seen part.old) buffer.old) calls.now ≡ (v.items, standing result.0 (seen part.new) buffer.new)) (λ _. standing result.0 (seen part.new) buffer.new ≡ standing hosts (seen part.old) buffer.old) }
     ensures levels { OnOk result.1 (seen part.new ≡ part_after (seen part.old) (on_wires (standing hosts (seen part.old) buffer.old) calls.now)) }
+    ensures each_call { LevelsAfterEachCall (standing hosts (seen part.old) buffer.old) calls.now }
     ensures law { AtRest (seen part.old) → KeepsTime part_machine byte_chart (seen part.old) (on_wires (standing hosts (seen part.old) buffer.old) calls.now) }
+    ensures heard { AtRest (seen part.old) → SessionReadsAreHeard (standing hosts (seen part.old) buffer.old) calls.now }
+    ensures reads { AtRest (seen part.old) → SessionReadsAgree (standing hosts (seen part.old) buffer.old) calls.now }
 {
     let mut answers = match Vec::with_capacity(heap, calls.len()) {
         Ok(room) => room,

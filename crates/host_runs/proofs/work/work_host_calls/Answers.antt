@@ -5,11 +5,12 @@ use Rattle.rx5c348a_runs.specs.declared.call.WireCall.TheVariants.{Load}
 use Rattle.rx5c348a_runs.proofs.Runs.{part_law}
 use Rattle.host_runs.specs.declared.call.HostCall.TheVariants.{Wire}
 use Rattle.host_runs.specs.Hosts.{seat, host_state, host_run}
-use Rattle.host_runs.proofs.Wires.{run_none, run_more, ends_on_wires}
+use Rattle.host_runs.proofs.SessionReads.{session_reads_are_heard, session_reads_agree}
+use Rattle.host_runs.proofs.Wires.{run_none, run_more, ends_on_wires, levels_after_each_call}
 use Rattle.host_runs.proofs.work.work_host_calls.Goals as goal
 
 pub returns-in-Err : goal.returns-in-Err
-returns-in-Err c = record { answers = refl; levels = tt; law = λ rest. part_law _ rest _ }
+returns-in-Err c = record { answers = refl; levels = tt; each_call = levels_after_each_call _ _; law = λ rest. part_law _ rest _; heard = λ rest. session_reads_are_heard _ rest _; reads = λ rest. session_reads_agree _ rest _ }
 
 pub loop-call-init : goal.loop-call-init
 loop-call-init c =
@@ -33,4 +34,4 @@ pub returns : goal.returns
 returns c =
     let start = host_state (seat c.args.hosts.first) (seat c.args.hosts.second) (seen c.args.part.now) c.args.buffer.now in
     let all = ap (host_run start) (sym (take_all _ _ c.loop-call-test.false)) ∙ c.loop-call.invariant.3 in
-    record { answers = all; levels = ends_on_wires start _ _ _ all; law = λ rest. part_law _ rest _ }
+    record { answers = all; levels = ends_on_wires start _ _ _ all; each_call = levels_after_each_call _ _; law = λ rest. part_law _ rest _; heard = λ rest. session_reads_are_heard _ rest _; reads = λ rest. session_reads_agree _ rest _ }
