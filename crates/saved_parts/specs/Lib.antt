@@ -1,0 +1,10 @@
+pub mod Alarms
+pub mod Answers
+pub mod Calls348
+pub mod Calls62
+pub mod Files
+pub mod Flags
+pub mod Part348
+pub mod Part62
+pub mod Running
+pub mod Transfers
