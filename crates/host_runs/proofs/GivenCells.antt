@@ -42,6 +42,7 @@ fresh row high (WriteTo address burst) si so phase f a = never (sym (ap awaits f
 fresh row high (ReadFrom address burst) si so phase f a = never (sym (ap awaits f.stands) ∙ a)
 fresh row high Unheard si so phase f a = never (sym (ap awaits f) ∙ a)
 
+-- the parts of its test
 awaits_by : (ce sclk : Bool) (header : Bool) → ((ce && header) && not sclk) ≡ true → (ce ≡ true) × (sclk ≡ false) × (header ≡ true)
 awaits_by true true true e = never e
 awaits_by true true false e = never e
@@ -52,6 +53,7 @@ awaits_by false true false e = never e
 awaits_by false false true e = never e
 awaits_by false false false e = never e
 
+-- where a header is awaited
 is_awaiting : (e : Notes) (p : PartState) → Tracks e p → awaits_header p ≡ true → p ≡ awaiting p.file
 is_awaiting e p t h =
     let w = awaits_by p.ce p.sclk (awaits p.phase) h in

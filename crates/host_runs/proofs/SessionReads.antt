@@ -31,7 +31,7 @@ use Rattle.host_runs.specs.declared.call.HostCall.{HostCall}
 use Rattle.host_runs.specs.Hosts.{Seat, Stepped, session_step, HostState, work_one, host_run}
 use Rattle.host_runs.specs.Levels.{session_levels, wire_calls_of, on_wires, part_after, LevelsSoFar}
 use Rattle.host_runs.specs.Reads.{GivesByte, HostIsGiven, HeardGiven, CellsAreHeard, CellsAgree, SessionReadsAreHeard, OpenThen, OfItsStretch, SessionReadsAgree}
-use Rattle.host_runs.proofs.Wires.{end_state, ends_at, in_parts, levels_end, front, levels_after_each_call}
+use Rattle.host_runs.proofs.Wires.{end_state, ends_at, in_parts, levels_end, levels_after_each_call}
 use Rattle.host_runs.proofs.GivenCells.{Stands, gives, HostStands, host_gives}
 
 -- stretches of a log, and of a part of it

@@ -66,6 +66,10 @@ part_after p calls = state_after part_machine p (log_of part_machine p calls)
 abbrev pub part_after_levels : PartState → List ℕ → PartState
 part_after_levels p levels = part_after p (map Pins levels)
 
+-- what is heard of a list of hosts' calls on the wires
+abbrev pub wires_log : HostState → List HostCall → Log part_machine
+wires_log s calls = log_of part_machine s.part (on_wires s calls)
+
 -- After the first calls of a list.
 pub record LevelsSoFar (s : HostState) (calls earlier : List HostCall) : Type 0 where
   -- the part is as what these make on the wires leaves it
@@ -75,7 +79,7 @@ pub record LevelsSoFar (s : HostState) (calls earlier : List HostCall) : Type 0 
   pub begins : on_wires s calls ≡ on_wires s earlier ++ rest
   -- so what was heard by then is an earlier part of its log
   pub later : Log part_machine
-  pub heard : log_of part_machine s.part (on_wires s calls) ≡ later ++ log_of part_machine s.part (on_wires s earlier)
+  pub heard : wires_log s calls ≡ later ++ wires_log s earlier
 
 -- The same after each call of a list, and before the first.
 abbrev pub LevelsAfterEachCall : HostState → List HostCall → Type 0

@@ -18,7 +18,7 @@ use Rattle.host_runs.specs.declared.call.HostCall.{HostCall}
 use Rattle.host_runs.specs.declared.call.HostCall.TheVariants.{Wire, First, Second}
 use Rattle.host_runs.specs.declared.call.HostAnswer.TheVariants.{Byte, Moved}
 use Rattle.host_runs.specs.Hosts.{Answered, HostState, work_one, host_run}
-use Rattle.host_runs.specs.Levels.{wire_calls_of, on_wires, part_after}
+use Rattle.host_runs.specs.Levels.{wire_calls_of, on_wires, part_after, wires_log}
 
 -- A single read answers a register's byte.
 pub record AnswersByte (call : SessionCall) (answer : Answered) (register byte : ℕ) : Type 0 where
@@ -56,8 +56,8 @@ pub record HeardGiven (mode : HourMode) (start : PartState) (before calls : List
   pub cut : calls ≡ front ++ (Pins levels ∷ rest)
   pub given : sight_after mode start (before ++ front) (Pins levels) ≡ Gave (one_cell cell byte)
 
--- Whatever calls on the wires brought a part here from a load: each calendar cell that a session's call gives its host is heard so,
--- among the levels of that call.
+-- A call of a session on a part that any calls on the wires brought here, from where the law begins: each calendar cell that it gives
+-- its host is heard so among its levels.
 abbrev pub CellsAreHeard : PartState → List ℕ → SessionCall → Answered → List ℕ → Type 0
 CellsAreHeard p levels call answer buffer =
     (start : PartState) → AtRest start → (new : NewlyMade byte_chart start.file.core) (before : List WireCall) → p ≡ part_after start before → (cell byte : ℕ) → cell < 7 → GivesByte call answer buffer cell byte → HeardGiven new.map.mode start before (map Pins levels) cell byte
@@ -83,8 +83,8 @@ pub record OfItsStretch (mode : HourMode) (start : PartState) (whole heard : Log
   pub agrees :
       (s : Stretch part_machine mode whole) → OpenThen mode whole s heard → (p : Shown) → calendar part_machine byte_chart start s.before ≡ Some p → byte ≡ slice_index (byte_chart.code mode p) cell
 
--- Whatever calls on the wires brought a part here from a load, and whatever is heard later: under the law's premises each calendar
--- cell that a session's call gives its host is of its held stretch.
+-- A call of a session as above, whatever is heard later: under the law's premises each calendar cell that it gives its host is of its
+-- held stretch.
 abbrev pub CellsAgree : PartState → SessionCall → Answered → List ℕ → Type 0
 CellsAgree p call answer buffer =
     (start : PartState) → AtRest start → (new : NewlyMade byte_chart start.file.core) (before : List WireCall) → p ≡ part_after start before → (whole later : Log part_machine) → whole ≡ later ++ log_of part_machine start before → Undisturbed part_machine new.map.mode whole → ShortStretches part_machine new.map.mode whole → (cell byte : ℕ) → cell < 7 → GivesByte call answer buffer cell byte → OfItsStretch new.map.mode start whole (log_of part_machine start before) cell byte
@@ -92,4 +92,4 @@ CellsAgree p call answer buffer =
 -- The same of each call of a list of hosts.
 abbrev pub SessionReadsAgree : HostState → List HostCall → Type 0
 SessionReadsAgree s calls =
-    (new : NewlyMade byte_chart s.part.file.core) → Undisturbed part_machine new.map.mode (log_of part_machine s.part (on_wires s calls)) → ShortStretches part_machine new.map.mode (log_of part_machine s.part (on_wires s calls)) → (earlier later : List HostCall) (call : HostCall) → calls ≡ earlier ++ (call ∷ later) → (cell byte : ℕ) → cell < 7 → HostIsGiven call (work_one (host_run s earlier).1 call) cell byte → OfItsStretch new.map.mode s.part (log_of part_machine s.part (on_wires s calls)) (log_of part_machine s.part (on_wires s earlier)) cell byte
+    (new : NewlyMade byte_chart s.part.file.core) → Undisturbed part_machine new.map.mode (wires_log s calls) → ShortStretches part_machine new.map.mode (wires_log s calls) → (earlier later : List HostCall) (call : HostCall) → calls ≡ earlier ++ (call ∷ later) → (cell byte : ℕ) → cell < 7 → HostIsGiven call (work_one (host_run s earlier).1 call) cell byte → OfItsStretch new.map.mode s.part (wires_log s calls) (wires_log s earlier) cell byte

@@ -1,5 +1,5 @@
 -- What is saved is read back.
-use Rattle.std.proofs.Common.{◌≡◌, ℕ, zero, suc, ◌<◌, ◌≤◌, Bool, true, false, ◌||◌, cond, List, [], ◌∷◌, length, get_or, Some, None, Option, sym, refl, ap, ◌∙◌, ap₂, arith}
+use Rattle.std.proofs.Common.{◌≡◌, ℕ, ◌<◌, ◌≤◌, Bool, true, false, ◌||◌, cond, List, [], ◌∷◌, length, get_or, Some, None, refl, ap, ◌∙◌, ap₂, arith}
 use Rattle.std.proofs.Math.Dec.{ltb}
 use Rattle.std.proofs.lemmas.Bool.{lt-leb, le-ltb}
 use Rattle.register_map.specs.declared.hour_mode.HourMode.{HourMode}
@@ -22,12 +22,12 @@ use Rattle.rx5c_registers.specs.Alarms.{blank_row}
 use Rattle.rx5c_registers.specs.File.{FileState, file_seen, alarm}
 use Rattle.saved_parts.specs.declared.file.SavedFile.{SavedFile}
 use Rattle.rx5c348a.specs.declared.part.Rx5c348a.{Rx5c348a}
-use Rattle.rx5c348a.specs.Part.{PartState, seen}
+use Rattle.rx5c348a.specs.Part.{seen}
 use Rattle.saved_parts.specs.Flags.{flag_number, flag_numbered}
 use Rattle.saved_parts.specs.Running.{hold_number, hold_numbered, mode_read, out_of_range, core_of, core_saved, core_restored}
 use Rattle.saved_parts.specs.declared.running.SavedCore.{SavedCore}
 use Rattle.saved_parts.specs.Alarms.{alarm_saved, alarm_restored}
-use Rattle.saved_parts.specs.Transfers.{out_numbered, saved_as, read_read, phase_read, transfer_saved, transfer_restored}
+use Rattle.saved_parts.specs.Transfers.{out_numbered, read_read, phase_read, transfer_saved, transfer_restored}
 use Rattle.saved_parts.specs.Files.{file_saved, file_of, file_restored}
 use Rattle.saved_parts.specs.Part348.{saved, restored, part_of}
 use Rattle.msm62x42.specs.declared.part.Msm62x42.{Msm62x42}
@@ -104,9 +104,6 @@ two_rows [] blank h = absurd (omega arith)
 two_rows (a ∷ []) blank h = absurd (omega arith)
 two_rows (a ∷ b ∷ []) blank h = refl
 two_rows (a ∷ b ∷ c ∷ rows) blank h = absurd (omega arith)
-
-abbrev with_rows : FileState → List AlarmRow → FileState
-with_rows f rows = record { core = f.core; alarms = rows; stopped = f.stopped; control = f.control; flags = f.flags }
 
 -- the file's pieces, each read back, make the file
 file_pieces : (r : SavedFile) (f : FileState) (weekly daily : AlarmRow) → core_restored r.core r.cells ≡ Some f.core → alarm_restored r.weekly ≡ Some weekly → alarm_restored r.daily ≡ Some daily → flag_numbered r.oscillator_stopped ≡ Some f.stopped → r.stored_control ≡ f.control → r.stored_flags ≡ f.flags → weekly ∷ daily ∷ [] ≡ f.alarms → file_restored r ≡ Some f

@@ -1,5 +1,5 @@
 -- The register file of a 348A, as it is saved and read back.
-use Rattle.std.specs.Prelude.{Bool, List, [], ◌∷◌, Some, None, Option}
+use Rattle.std.specs.Prelude.{Bool, [], ◌∷◌, Some, None, Option}
 use Rattle.clock_core.specs.Core.{CoreState}
 use Rattle.rx5c_registers.specs.declared.alarm.AlarmRow.{AlarmRow}
 use Rattle.rx5c_registers.specs.File.{FileState, alarm}

@@ -2,7 +2,7 @@
 ghost use Rattle.std.specs.Prelude.{◌≡◌, IfSome};
 ghost use Rattle.saved_parts.specs.Alarms.{alarm_saved, alarm_restored};
 
-use crate::flags::{flag_number, flag_numbered};
+use crate::flags::flag_numbered;
 use rx5c_registers::alarm::AlarmRow;
 
 #[repr(C)]
@@ -23,8 +23,8 @@ impl SavedAlarm {
             minute: row.minute,
             hour: row.hour,
             days: row.days,
-            enabled: flag_number(row.enabled),
-            flag: flag_number(row.flag),
+            enabled: u8::from(row.enabled),
+            flag: u8::from(row.flag),
         }
     }
 

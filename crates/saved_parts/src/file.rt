@@ -5,7 +5,7 @@ ghost use Rattle.rx5c_registers.specs.File.{file_seen};
 ghost use Rattle.saved_parts.specs.Files.{file_saved, file_restored};
 
 use crate::alarm::SavedAlarm;
-use crate::flags::{flag_number, flag_numbered};
+use crate::flags::flag_numbered;
 use crate::running::SavedCore;
 use byte_map::cells::ByteCells;
 use rx5c_registers::file::RegisterFile;
@@ -32,7 +32,7 @@ impl SavedFile {
             cells: file.core.map.cells.bytes,
             weekly: SavedAlarm::of(weekly),
             daily: SavedAlarm::of(daily),
-            oscillator_stopped: flag_number(file.oscillator_stopped),
+            oscillator_stopped: u8::from(file.oscillator_stopped),
             stored_control: file.stored_control,
             stored_flags: file.stored_flags,
         }

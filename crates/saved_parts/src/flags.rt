@@ -2,12 +2,6 @@
 ghost use Rattle.std.specs.Prelude.{◌≡◌, IfSome};
 ghost use Rattle.saved_parts.specs.Flags.{flag_number, flag_numbered};
 
-pub(crate) fn flag_number(flag: bool) -> u8
-    ensures { result ≡ flag_number flag }
-{
-    u8::from(flag)
-}
-
 // 0 and 1; no other number is one.
 pub(crate) fn flag_numbered(number: u8) -> Option<bool>
     ensures value { result ≡ flag_numbered number }

@@ -5,7 +5,7 @@ ghost use Rattle.rx5c348a.specs.Part.{seen};
 ghost use Rattle.saved_parts.specs.Part348.{saved, restored};
 
 use crate::file::SavedFile;
-use crate::flags::{flag_number, flag_numbered};
+use crate::flags::flag_numbered;
 use crate::transfer::SavedTransfer;
 use rx5c348a::part::Rx5c348a;
 
@@ -32,8 +32,8 @@ impl Saved348 {
         Saved348 {
             mark: MARK,
             registers: SavedFile::of(&part.registers),
-            ce: flag_number(part.ce),
-            sclk: flag_number(part.sclk),
+            ce: u8::from(part.ce),
+            sclk: u8::from(part.sclk),
             transfer: SavedTransfer::of(part.transfer),
         }
     }

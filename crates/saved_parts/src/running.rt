@@ -52,11 +52,7 @@ fn mode_read(number: u8) -> Option<HourMode>
     ensures value { result ≡ mode_read number }
     ensures same { IfSome result (λ mode. mode_bit 1 mode ≡ number) }
 {
-    match number {
-        0 => Some(HourMode::Twelve),
-        1 => Some(HourMode::TwentyFour),
-        _ => None,
-    }
+    HourMode::try_from(u32::from(number)).ok()
 }
 
 impl SavedCore {

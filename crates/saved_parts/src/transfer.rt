@@ -5,7 +5,7 @@ ghost use Rattle.serial_transfer.specs.Levels.{out_number};
 ghost use Rattle.saved_parts.specs.Flags.{flag_numbered};
 ghost use Rattle.saved_parts.specs.Transfers.{out_numbered, blank, transfer_saved, header_read, write_read, read_read, transfer_restored};
 
-use crate::flags::{flag_number, flag_numbered};
+use crate::flags::flag_numbered;
 use serial_transfer::phase::{Phase, SerialOut};
 use serial_transfer::transfer::Transfer;
 
@@ -61,7 +61,7 @@ impl SavedTransfer {
             } => SavedTransfer {
                 phase: 2,
                 address,
-                burst: flag_number(burst),
+                burst: u8::from(burst),
                 bits,
                 byte: gathered,
                 out: 0,
@@ -75,7 +75,7 @@ impl SavedTransfer {
             } => SavedTransfer {
                 phase: 3,
                 address,
-                burst: flag_number(burst),
+                burst: u8::from(burst),
                 bits,
                 byte,
                 out: u8::from(out),
