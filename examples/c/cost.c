@@ -8,7 +8,11 @@
 #include <string.h>
 #include <time.h>
 
-static const unsigned calls = 20000000;
+#ifndef CALLS
+#define CALLS 20000000
+#endif
+
+static const unsigned calls = CALLS;
 
 static double nanoseconds(clock_t from) {
     return (double)(clock() - from) * 1e9 / CLOCKS_PER_SEC / calls;

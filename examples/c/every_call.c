@@ -162,6 +162,31 @@ static void sleep_in_mid_transfer(void) {
     CHECK(CLOCK_INTR(clock348_pins(&serial.part, 0)) == 1);
 }
 
+/* The bytes of a record of each part, as the page on the parts from C has them. */
+static void layouts(void) {
+    static const unsigned char serial_bytes[] = {
+        0x41, 0x38, 0x34, 0x33, 5, 0, 0, 0, 0x00, 0x80, 0, 0, 1, 0, 1, 7, 0x58, 0x59, 0x13, 0x05, 0x17, 0x87,
+        0x26, 0, 0, 0, 0, 0, 0, 0, 0x7F, 0, 0, 0, 0, 0, 1, 0, 1, 0, 0, 1, 1, 0,
+    };
+    static const unsigned char bus_bytes[] = {
+        0x36, 0x32, 0x58, 0x34, 3, 0, 0, 0, 0x00, 0x80, 0, 0, 1, 0, 1, 0, 9, 5, 9, 5, 3, 1, 7, 1, 7, 0, 6, 2, 5, 0, 0, 0,
+    };
+    CHECK(sizeof(clock348) == 44 && sizeof serial_bytes == 44);
+    CHECK(sizeof(clock62) == 32 && sizeof bus_bytes == 32);
+    clock348_load(&serial.part, 3993371998u, 5, 7, CLOCK_24_HOURS);
+    clock348_pulses(&serial.part, 5);
+    clock348_pins(&serial.part, CLOCK_CE);
+    clock348_pins(&serial.part, CLOCK_CE + CLOCK_SCLK + CLOCK_SI);
+    clock348_pins(&serial.part, CLOCK_CE + CLOCK_SI);
+    CHECK(memcmp(&serial.part, serial_bytes, sizeof serial_bytes) == 0);
+    clock62_load(&bus.part, 837611999u, 5, CLOCK_24_HOURS);
+    clock62_pulses(&bus.part, 3);
+    clock62_write(&bus.part, 13, 1);
+    CHECK(memcmp(&bus.part, bus_bytes, sizeof bus_bytes) == 0);
+    clock348_pins(&serial.part, 0);
+    clock62_deselect(&bus.part);
+}
+
 static void the_62x42(void) {
     CHECK(clock62_power_on(&bus.part) == 0);
     CHECK(clock62_read(&bus.part, 13) == 2);
@@ -192,6 +217,7 @@ int main(void) {
     the_62x42();
     sleep_in_mid_transfer();
     looks();
+    layouts();
     CHECK(guards_stand());
     printf("%u checks held, %u broken\n", held, broken);
     return broken == 0 ? 0 : 1;

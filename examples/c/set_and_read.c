@@ -41,24 +41,26 @@ static uint32_t byte_out(clock348 *part) {
     return byte;
 }
 
-/* Hours, minutes and seconds by a burst read from register 0, under one CE. */
+/* Date and time by a burst read from register 0, under one CE. The month register has the century in bit 7. */
 static void print_time(clock348 *part) {
+    uint32_t cells[7];
     clock348_pins(part, CLOCK_CE);
     byte_in(part, 0x04);
-    uint32_t seconds = byte_out(part);
-    uint32_t minutes = byte_out(part);
-    uint32_t hours = byte_out(part);
+    for (int i = 0; i < 7; i++) {
+        cells[i] = byte_out(part);
+    }
     clock348_pins(part, 0);
-    printf("348A %02x:%02x:%02x\n", (unsigned)hours, (unsigned)minutes, (unsigned)seconds);
+    printf("348A %s%02x-%02x-%02x %02x:%02x:%02x, weekday %x\n", cells[5] & 0x80 ? "20" : "19", (unsigned)cells[6], (unsigned)(cells[5] & 0x7F),
+           (unsigned)cells[4], (unsigned)cells[2], (unsigned)cells[1], (unsigned)cells[0], (unsigned)cells[3]);
 }
 
 static int run_348(void) {
     clock348 part;
     memset(&part, 0, sizeof part);
     served("pulses of no record", clock348_pulses(&part, 1));
-    /* Friday 17 July 2026, 13:59:58 */
+    /* Friday 17 July 2026, 13:59:58: Unix time 1,784,296,798 */
     if (!served("power on", clock348_power_on(&part)) ||
-        !served("load", clock348_load(&part, 3993371998u, 5, 0, CLOCK_24_HOURS))) {
+        !served("load", clock348_load(&part, 1784296798u + 2209075200u, 5, 0, CLOCK_24_HOURS))) {
         return 0;
     }
     print_time(&part);
@@ -92,7 +94,8 @@ static int run_62(void) {
     if (!served("deselect", clock62_deselect(&part)) || !served("look", clock62_look(&part, registers, sizeof registers))) {
         return 0;
     }
-    printf("62X42 let go  %u%u:%u%u:%u%u\n", registers[5], registers[4], registers[3], registers[2], registers[1], registers[0]);
+    printf("62X42 let go  %u%u:%u%u:%u%u\n", (unsigned)registers[5], (unsigned)registers[4], (unsigned)registers[3], (unsigned)registers[2],
+           (unsigned)registers[1], (unsigned)registers[0]);
     served("write", clock62_write(&part, 16, 0));
     return 1;
 }
