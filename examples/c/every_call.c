@@ -39,20 +39,17 @@ static int guards_stand(void) {
     return serial.before == GUARD && serial.behind == GUARD && bus.before == GUARD && bus.behind == GUARD;
 }
 
-/* A call on the 348A that must answer `wanted` and leave the record as it is. */
-#define REFUSED_348(call, wanted)                                \
+/* A call that must answer `wanted` and leave its record as it is. */
+#define REFUSED(record, call, wanted)                            \
     do {                                                         \
-        clock348 before = serial.part;                           \
+        unsigned char before[sizeof(record)];                    \
+        memcpy(before, &(record), sizeof before);                \
         CHECK((call) == (wanted));                               \
-        CHECK(memcmp(&before, &serial.part, sizeof before) == 0); \
+        CHECK(memcmp(before, &(record), sizeof before) == 0);    \
     } while (0)
 
-#define REFUSED_62(call, wanted)                               \
-    do {                                                       \
-        clock62 before = bus.part;                             \
-        CHECK((call) == (wanted));                             \
-        CHECK(memcmp(&before, &bus.part, sizeof before) == 0); \
-    } while (0)
+#define REFUSED_348(call, wanted) REFUSED(serial.part, call, wanted)
+#define REFUSED_62(call, wanted) REFUSED(bus.part, call, wanted)
 
 static void no_call_takes_this_record(void) {
     uint8_t buffer[16] = {7};
