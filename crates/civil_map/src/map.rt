@@ -91,7 +91,9 @@ impl<C: FieldCells> RegisterMap for CivilMap<C> {
 
     ghost chart = { chart_of C.YEARS C.CELLS C.used C.written C.read };
 
-    ghost state = { λ m. map_state (C.cells m.cells) m.mode };
+    ghost cells = { λ m. C.cells m.cells };
+
+    ghost mode = { λ m. m.mode };
 
     ghost shown = { λ m. (chart_of C.YEARS C.CELLS C.used C.written C.read).reads m.mode (C.cells m.cells) };
 

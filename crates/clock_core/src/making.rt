@@ -1,7 +1,7 @@
 // How a core begins: made over a map, as power-on leaves it, or loaded.
 ghost use Rattle.std.specs.Prelude.{◌≡◌};
 ghost use Rattle.clock_core.specs.Core.{make_core, idle_core, load_core};
-ghost use Rattle.clock_core.specs.View.{meant, meant_made};
+ghost use Rattle.clock_core.specs.View.{meant, meant_made, map_meant};
 
 use crate::clock::{ClockCore, Hold, MakeRefused};
 use crate::seconds::PLAIN_SECOND;
@@ -14,7 +14,7 @@ use register_map::shown::Shown;
 impl<M: RegisterMap> ClockCore<M> {
     // A released core over a map, at the beginning of a second.
     pub fn make(map: M, trim: u32) -> Result<ClockCore<M>, MakeRefused<M>>
-        ensures { meant_made M.RegisterMap result ≡ make_core M.RegisterMap.chart (M.RegisterMap.state map) trim }
+        ensures { meant_made M.RegisterMap result ≡ make_core M.RegisterMap.chart (map_meant M.RegisterMap map) trim }
     {
         if trim > 127 {
             let refusal = Refusal::NoSuchSetting;
@@ -32,7 +32,7 @@ impl<M: RegisterMap> ClockCore<M> {
 
     // A core as power-on leaves it, over a map that need not show a moment.
     pub fn idle(map: M) -> ClockCore<M>
-        ensures { meant M.RegisterMap result ≡ idle_core (M.RegisterMap.state map) }
+        ensures { meant M.RegisterMap result ≡ idle_core (map_meant M.RegisterMap map) }
     {
         ClockCore {
             map,

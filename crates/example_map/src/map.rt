@@ -49,7 +49,9 @@ impl RegisterMap for DayMap {
 
     ghost chart = { day_chart };
 
-    ghost state = { λ m. map_state m.cells m.mode };
+    ghost cells = { λ m. m.cells };
+
+    ghost mode = { λ m. m.mode };
 
     ghost shown = { λ m. day_chart.reads m.mode m.cells };
 
