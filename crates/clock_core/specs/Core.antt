@@ -1,12 +1,14 @@
 -- The clock core: what each call answers and leaves, over any register map.
 use Rattle.std.specs.Prelude.{ℕ, zero, suc, ◌+◌, ◌-◌, ◌%◌, Bool, true, false, cond, ◌||◌, List, ◌++◌, length, drop, replicate, Some, None, Ok, Err, Option, Result, ◌==◌, nat_le, nat_lt, slice_index}
 use Rattle.std.specs.Option.{option_map}
+use Rattle.std.specs.Result.{is_err, result_unwrap_or}
 use Rattle.refusals.specs.declared.Refusal.{Refusal}
 use Rattle.refusals.specs.declared.Refusal.TheVariants.{NoSuchMoment, NoSuchSetting, TooManyPulses, ShortBuffer, NoSuchCell, ShowsNone, AlreadyHeld, NotHeld}
 use Rattle.register_map.specs.declared.hour_mode.HourMode.{HourMode}
-use Rattle.register_map.specs.declared.hour_mode.HourMode.TheVariants.{Twelve, TwentyFour}
+use Rattle.register_map.specs.declared.hour_mode.HourMode.TheVariants.{Twelve}
 use Rattle.register_map.specs.declared.shown.Shown.{Shown}
 use Rattle.register_map.specs.Chart.{Chart, MapState, map_state, shown_by, second_of, second_after, advanced, put_byte, set_mode}
+use Rattle.register_map.specs.Modes.{mode_numbered}
 use Rattle.clock_core.specs.Seconds.{second_pulses}
 
 -- A core: its map, its trim, where it stands in the running second and how long that is,
@@ -104,14 +106,15 @@ make_core c m trim = cond (nat_lt 127 trim) (Err (NoSuchSetting, m)) (made_of c 
 abbrev pub idle_core : MapState → CoreState
 idle_core m = record { map = m; trim = 0; position = 0; second = 32768; held = false; waits = false }
 
--- the hour mode of a number: 0 for 12 hours, 1 for 24
+-- the hour mode of a number; a load of one that has none is refused before it asks
 abbrev pub mode_of : ℕ → HourMode
-mode_of number = cond (number == 0) Twelve TwentyFour
+mode_of number = result_unwrap_or (mode_numbered number) Twelve
 
 -- what load refuses: first the moment and the weekday, then the trim and the mode
 abbrev pub load_refusal : Chart → ℕ → ℕ → ℕ → ℕ → Option Refusal
 load_refusal c moment weekday trim mode =
-    cond (nat_le c.cycle moment || nat_lt 6 weekday) (Some NoSuchMoment) (cond (nat_lt 127 trim || nat_lt 1 mode) (Some NoSuchSetting) None)
+    cond (nat_le c.cycle moment || nat_lt 6 weekday) (Some NoSuchMoment)
+    (cond (nat_lt 127 trim || is_err (mode_numbered mode)) (Some NoSuchSetting) None)
 
 -- the core that a load leaves: it shows the moment and weekday, released, at the beginning of a second
 abbrev pub loaded : Chart → ℕ → ℕ → ℕ → ℕ → CoreState

@@ -3,8 +3,9 @@ use Rattle.std.specs.Prelude.{ℕ, ◌/◌, ◌%◌, Bool, true, false, cond, �
 use Rattle.refusals.specs.declared.Refusal.{Refusal}
 use Rattle.refusals.specs.declared.Refusal.TheVariants.{NoSuchCell}
 use Rattle.register_map.specs.declared.hour_mode.HourMode.{HourMode}
-use Rattle.register_map.specs.declared.hour_mode.HourMode.TheVariants.{Twelve, TwentyFour}
+use Rattle.register_map.specs.declared.hour_mode.HourMode.TheVariants.{Twelve}
 use Rattle.register_map.specs.Chart.{map_state, put_byte}
+use Rattle.register_map.specs.Modes.{mode_if, mode_bit}
 use Rattle.digit_map.specs.Cells.{digit_chart}
 use Rattle.clock_core.specs.Core.{CoreState, Accepted, idle_core, load_core, give_pulses, hold_core, release_core, with_map, set_core_mode, copied_front}
 use Rattle.clock_core.specs.View.{core_by}
@@ -19,14 +20,9 @@ abbrev pub hold_register : Bool → ℕ
 hold_register true = 1
 hold_register false = 2
 
--- Fh: 4 in 24-hour mode
-abbrev pub mode_register : HourMode → ℕ
-mode_register Twelve = 0
-mode_register TwentyFour = 4
-
--- Dh to Fh
+-- Dh to Fh; the hour mode is bit 2 of Fh
 abbrev pub control_registers : CoreState → List ℕ
-control_registers s = hold_register s.held ∷ 0 ∷ mode_register s.map.mode ∷ []
+control_registers s = hold_register s.held ∷ 0 ∷ mode_bit 4 s.map.mode ∷ []
 
 -- Registers 0 to Fh: the thirteen cells, then Dh to Fh.
 abbrev pub registers : CoreState → List ℕ
@@ -48,7 +44,7 @@ read_part s address = cond (nat_lt 15 address) (Err NoSuchCell) (Ok (slice_index
 
 -- the hour mode by bit 2
 abbrev pub hour_mode_of : ℕ → HourMode
-hour_mode_of number = cond (number / 4 % 2 == 1) TwentyFour Twelve
+hour_mode_of number = mode_if (number / 4 % 2 == 1)
 
 -- Writing HOLD 1 holds and writing 0 releases; where that is so already, nothing changes.
 abbrev pub hold_written : CoreState → ℕ → CoreState

@@ -1,9 +1,9 @@
 -- A core but for its cells, as it is saved and read back.
 use Rattle.std.specs.Prelude.{ℕ, Bool, true, false, cond, ◌||◌, List, Some, None, Option, ◌==◌, nat_lt, nat_le}
+use Rattle.std.specs.Result.{result_ok}
 use Rattle.register_map.specs.declared.hour_mode.HourMode.{HourMode}
-use Rattle.register_map.specs.declared.hour_mode.HourMode.TheVariants.{Twelve, TwentyFour}
 use Rattle.register_map.specs.Chart.{map_state}
-use Rattle.register_map.specs.Modes.{mode_bit}
+use Rattle.register_map.specs.Modes.{mode_bit, mode_numbered}
 use Rattle.clock_core.specs.Core.{CoreState}
 use Rattle.clock_core.specs.View.{is_held, boundary_waits}
 use Rattle.clock_core.specs.declared.clock.Hold.{Hold}
@@ -18,9 +18,9 @@ abbrev pub hold_numbered : ℕ → Option Hold
 hold_numbered number =
     cond (number == 0) (Some Released) (cond (number == 1) (Some (Held false)) (cond (number == 2) (Some (Held true)) None))
 
--- 0 for 12 hours, 1 for 24
+-- a mode by its number
 abbrev pub mode_read : ℕ → Option HourMode
-mode_read number = cond (number == 0) (Some Twelve) (cond (number == 1) (Some TwentyFour) None)
+mode_read number = result_ok (mode_numbered number)
 
 abbrev pub core_saved : CoreState → SavedCore
 core_saved s =

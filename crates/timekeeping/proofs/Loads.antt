@@ -1,7 +1,9 @@
 -- An accepted load leaves a newly made core.
 use Rattle.std.proofs.Common.{◌≡◌, ℕ, Bool, true, false, cond, ◌||◌, ltb, leb, Some, None, Ok, refl, arith, ltb-false, leb-false}
+use Rattle.std.specs.Result.{is_err}
 use Rattle.refusals.specs.declared.Refusal.TheVariants.{NoSuchMoment, NoSuchSetting}
 use Rattle.register_map.specs.Chart.{Chart, Lawful, map_state}
+use Rattle.register_map.specs.Modes.{mode_numbered}
 use Rattle.clock_core.specs.Core.{CoreState, Accepted, mode_of, loaded, unless_refused, load_core}
 use Rattle.timekeeping.specs.Law.{NewlyMade}
 
@@ -26,4 +28,4 @@ loads_by c law s moment weekday trim mode false false false false a b d e =
 
 pub loads_new : (c : Chart) → Lawful c → (s : CoreState) (moment weekday trim mode : ℕ) → ◌≡◌ {A = Accepted} (load_core c s moment weekday trim mode).0 (Ok tt) → NewlyMade c (load_core c s moment weekday trim mode).1
 loads_new c law s moment weekday trim mode e =
-    loads_by c law s moment weekday trim mode (leb c.cycle moment) (ltb 6 weekday) (ltb 127 trim) (ltb 1 mode) refl refl refl e
+    loads_by c law s moment weekday trim mode (leb c.cycle moment) (ltb 6 weekday) (ltb 127 trim) (is_err (mode_numbered mode)) refl refl refl e
