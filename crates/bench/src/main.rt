@@ -7,13 +7,13 @@ use std::alloc::AllocError;
 use std::io;
 use std::io::{Read, Write};
 use tape::fault::TapeFault;
-use tape::play::play;
+use tape::play::{Playback, ReadyTape};
 use thiserror::Error;
 
 // One byte more than the longest tape, so that a longer one is seen to be too long.
 const ENOUGH: u64 = 4097;
 
-// What ends the program with status 1; a fault of the tape does not.
+// What ends the program early. A fault of the tape is printed as its line; anything else ends it with status 1.
 #[derive(Debug, Drop, Error)]
 enum BenchError {
     #[error("standard input or output: {0}")]
@@ -22,6 +22,8 @@ enum BenchError {
     NoMemory,
     #[error("no line: {0}")]
     Line(#[from] Refusal),
+    #[error("a fault of the tape")]
+    Tape(TapeFault),
 }
 
 // By hand: a variant that held the error would be printed otherwise.
@@ -31,15 +33,28 @@ impl From<AllocError> for BenchError {
     }
 }
 
-fn main(rt: HostRuntime) -> Result<(), BenchError> {
-    let mut tape = Vec::new(rt.alloc());
-    rt.stdin().take(ENOUGH).read_to_end(&mut tape)?;
-    let mut part = Rx5c348a::power_on();
-    let playback = play(rt.alloc(), &tape, &mut part)?;
-    rt.stdout().write_all(&playback.printed)?;
-    if let Err(fault) = playback.end {
-        write_fault(&rt, fault)?;
+impl From<TapeFault> for BenchError {
+    fn from(fault: TapeFault) -> BenchError {
+        BenchError::Tape(fault)
     }
+}
+
+fn main(rt: HostRuntime) -> Result<(), BenchError> {
+    match play_input(&rt) {
+        Err(BenchError::Tape(fault)) => write_fault(&rt, fault),
+        ended => ended,
+    }
+}
+
+// What the tape prints is written first, also where a fault ends it.
+fn play_input(rt: &HostRuntime) -> Result<(), BenchError> {
+    let mut bytes = Vec::new(rt.alloc());
+    rt.stdin().take(ENOUGH).read_to_end(&mut bytes)?;
+    let tape = ReadyTape::new(rt.alloc(), &bytes)?;
+    let mut part = Rx5c348a::power_on();
+    let Playback { printed, end } = tape.play(&mut part);
+    rt.stdout().write_all(&printed)?;
+    end?;
     Ok(())
 }
 

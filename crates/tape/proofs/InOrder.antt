@@ -1,18 +1,16 @@
 -- A tape does the records that write it in order.
-use Rattle.std.proofs.Common.{◌≡◌, ℕ, ◌+◌, ◌-◌, ◌^◌, ◌<◌, ◌≤◌, List, [], ◌∷◌, ◌++◌, length, IfOk, Ok, Err, Result, refl, ap, ◌∙◌, append_assoc, arith, MatchResult}
-use Rattle.std.specs.declared.alloc.AllocError.{AllocError}
+use Rattle.std.proofs.Common.{◌≡◌, ℕ, ◌+◌, ◌-◌, ◌^◌, ◌<◌, ◌≤◌, List, [], ◌∷◌, ◌++◌, length, Ok, Err, Result, refl, ap, ◌∙◌, append_assoc, arith}
 use Rattle.std.proofs.lemmas.List.{length-append}
 use Rattle.std.proofs.lemmas.Bool.{cond-false, le-ltb}
 use Rattle.refusals.specs.declared.Refusal.{Refusal}
 use Rattle.rx5c348a.specs.Part.{PartState}
 use Rattle.tape.specs.declared.fault.TapeFault.{TapeFault}
-use Rattle.tape.specs.declared.play.Playback.{Playback}
 use Rattle.tape.specs.declared.record.Record.{Record}
 use Rattle.tape.specs.declared.record.Record.TheVariants.{Load, Pulses, Levels, Print}
 use Rattle.tape.specs.declared.record.TapeRefusal.{TapeRefusal}
 use Rattle.tape.specs.Playing.{Bench, Outcome, bench, do_record, do_read, done_before, rest_after, one_record, place_fault, with_place, go_on, then_on, play_rest}
 use Rattle.tape.specs.Records.{RecordRead}
-use Rattle.tape.specs.Tapes.{play_tape, played}
+use Rattle.tape.specs.Tapes.{play_tape}
 use Rattle.tape.specs.Written.{record_bytes, number_in, tape_of, Writable, next_record, do_records, unless_refused, and_then, WrittenAs, Ends, ended, InOrder}
 use Rattle.tape.proofs.Coding.{record_read_back}
 use Rattle.tape.proofs.Cutting.{Bytes, every_tape_is_cut}
@@ -74,14 +72,10 @@ module _ (tape : List ℕ) (part : PartState) (short : length tape ≤ 4096) whe
         does_records ∙ same_next (do_records 0 records (bench part [])) (play_rest (length tape) rest) (ended (length (tape_of records)) how) (λ b. rest_ends (length tape) (length (tape_of records)) rest how b ends (omega (arith, ap length w.whole, length-append (tape_of records) rest)))
 
 -- The law of whole tapes, for what the defined play gives; a tape that is too long is only said to be written.
-in_order : (tape : List ℕ) (part : PartState) (outcome : Outcome) → Bytes tape → outcome ≡ play_tape tape part → InOrder tape part outcome
+pub in_order : (tape : List ℕ) (part : PartState) (outcome : Outcome) → Bytes tape → outcome ≡ play_tape tape part → InOrder tape part outcome
 in_order tape part outcome are is =
     record {
       goes_on = λ records rest w short. is ∙ does_records tape part short records rest w;
       ends = λ records rest how w ends short. is ∙ does_all tape part short records rest w how ends;
       written = every_tape_is_cut tape are;
     }
-
-pub answers_in_order : (answer : Result Playback AllocError) (tape : List ℕ) (before after : PartState) → Bytes tape → MatchResult answer (λ p. played p after ≡ play_tape tape before) (λ _. after ≡ before) → IfOk answer (λ p. InOrder tape before (played p after))
-answers_in_order (Ok p) tape before after are does = in_order tape before (played p after) are does
-answers_in_order (Err none) tape before after are does = tt

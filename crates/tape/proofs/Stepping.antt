@@ -1,8 +1,16 @@
 -- A tape is played record by record: each leaves fewer bytes, and what is left to play gives the whole.
-use Rattle.std.proofs.Common.{◌≡◌, ℕ, zero, suc, ◌+◌, ◌-◌, ◌<◌, ◌≤◌, List, [], ◌∷◌, length, IfOk, Ok, Err, Result, refl, arith}
+use Rattle.std.proofs.Common.{◌≡◌, ℕ, zero, suc, ◌+◌, ◌-◌, ◌<◌, ◌≤◌, List, [], ◌∷◌, ◌++◌, length, take, drop, IfOk, Ok, Err, Result, vec_items, vec_capacity, sym, refl, ap, ◌∙◌, arith}
+use Rattle.std.specs.Prelude.{Vec}
+use Rattle.std.specs.declared.alloc.Global.{Global}
+use Rattle.std.proofs.lemmas.List.{append-nil}
+use Rattle.std.proofs.Math.Seq.{take-append_seam}
 use Rattle.refusals.specs.declared.Refusal.{Refusal}
+use Rattle.rx5c348a.specs.Part.{PartState, load_part, pulse_part}
 use Rattle.tape.specs.declared.fault.RecordFault.{RecordFault}
-use Rattle.tape.specs.Playing.{Bench, Outcome, do_record, do_read, rest_after, one_record, place_fault, with_place, go_on, then_on, play_from, play_rest}
+use Rattle.tape.specs.declared.record.Record.{Record}
+use Rattle.tape.specs.declared.record.Record.TheVariants.{Load, Pulses, Levels, Print}
+use Rattle.tape.specs.Faults.{of_tape, of_part}
+use Rattle.tape.specs.Playing.{Bench, Outcome, Done, Stepped, Played, bench, tape_weekday, give_levels, printing, do_record, do_read, done_before, rest_after, one_record, in_front, count_printed, perform_record, count_step, play_one, place_fault, with_place, go_on, then_on, play_from, play_rest}
 use Rattle.tape.specs.Records.{RecordRead, read_record}
 use Rattle.tape.proofs.Reading.{record_shortens}
 
@@ -48,3 +56,100 @@ pub plays_out : (total : ℕ) (bytes : List ℕ) (b : Bench) → length bytes �
 unfolding play_from
 plays_out total [] b none = refl
 plays_out total (x ∷ xs) b none = absurd (omega arith)
+
+-- While a tape runs, what is left of it gives the same whole, and no memory is taken.
+pub record StillPlays (total : ℕ) (rest all : List ℕ) (part began : PartState) (printed before : Vec ℕ Global) : Type 0 where
+  pub goes_on : play_rest total rest (bench part (vec_items printed)) ≡ play_rest total all (bench began (vec_items before))
+  pub shorter : length rest ≤ total
+  pub room : vec_capacity printed ≡ vec_capacity before
+
+-- what was printed before a record stands before what it prints
+abbrev pub behind : List ℕ → Stepped → Stepped
+behind before did = (did.0, bench did.1.part (before ++ did.1.printed))
+
+record_behind : (r : Record) (part : PartState) (before rest : List ℕ) → done_before rest (do_record r (bench part before)) ≡ behind before (done_before rest (do_record r (bench part [])))
+unfolding printing
+record_behind (Load moment) part before rest = ap (λ l. done_before rest ((load_part part moment (tape_weekday moment) 0 1).0, bench (load_part part moment (tape_weekday moment) 0 1).1 l)) (sym (append-nil before))
+record_behind (Pulses count) part before rest = ap (λ l. done_before rest ((pulse_part part count).0, bench (pulse_part part count).1 l)) (sym (append-nil before))
+record_behind (Levels levels) part before rest = ap (λ l. done_before rest ((give_levels part levels).0, bench (give_levels part levels).1 l)) (sym (append-nil before))
+record_behind (Print number) part before rest = refl
+
+pub step_behind : (bytes : List ℕ) (part : PartState) (before : List ℕ) → one_record bytes (bench part before) ≡ behind before (one_record bytes (bench part []))
+step_behind bytes part before = by_read (read_record bytes)
+  where
+    by_read : (x : RecordRead) → do_read x (bench part before) ≡ behind before (do_read x (bench part []))
+    by_read (Ok read) = record_behind read.0 part before read.1
+    by_read (Err refused) = ap (λ l. (Err (of_tape refused), bench part l)) (sym (append-nil before))
+
+-- a record that is refused prints nothing
+Quiet : Stepped → Type 0
+Quiet did = (fault : RecordFault) → did.0 ≡ Err fault → did.1.printed ≡ []
+
+record_quiet : (r : Record) (part : PartState) (rest : List ℕ) → Quiet (done_before rest (do_record r (bench part [])))
+unfolding Quiet printing
+record_quiet (Load moment) part rest fault refused = refl
+record_quiet (Pulses count) part rest fault refused = refl
+record_quiet (Levels levels) part rest fault refused = refl
+record_quiet (Print number) part rest fault refused = cc
+
+step_quiet : (bytes : List ℕ) (part : PartState) → Quiet (one_record bytes (bench part []))
+unfolding Quiet
+step_quiet bytes part = by_read (read_record bytes)
+  where
+    by_read : (x : RecordRead) → Quiet (do_read x (bench part []))
+    by_read (Ok read) = record_quiet read.0 part read.1
+    by_read (Err refused) = λ fault is. refl
+
+-- From a record played by itself, with a line, to one played after others: what was printed before stands before.
+module _ (bytes : List ℕ) (part after : PartState) (before line then : List ℕ) where
+  step_taken : (did : Stepped) (count : ℕ) (rest : List ℕ) → ◌≡◌ {A = Played} (Ok (count, rest), after, then) (count_step did line) → ◌≡◌ {A = Stepped} (Ok rest, bench after (before ++ take count then)) (behind before did)
+  step_taken (Ok left, b) count rest is =
+      let text = take-append_seam b.printed (drop (length b.printed) line) in
+      let taken : take count then ≡ b.printed = ap (λ (w : Played). take count w.2) is ∙ ap (λ n. take n (in_front b.printed line)) (counted (ap (λ (w : Played). w.0) is)) ∙ text in
+      ap {B = Stepped} (λ (l : List ℕ). (Ok l, bench after (before ++ take count then))) (left_is (ap (λ (w : Played). w.0) is)) ∙ ap {B = Stepped} (λ (p : PartState). (Ok left, bench p (before ++ take count then))) (ap (λ (w : Played). w.1) is) ∙ ap {B = Stepped} (λ (l : List ℕ). (Ok left, bench b.part (before ++ l))) taken
+    where
+      both : ◌≡◌ {A = Result (ℕ × List ℕ) RecordFault} (Ok (count, rest)) (Ok (length b.printed, left)) → ◌≡◌ {A = ℕ × List ℕ} (count, rest) (length b.printed, left)
+      both e = cc
+
+      counted : ◌≡◌ {A = Result (ℕ × List ℕ) RecordFault} (Ok (count, rest)) (Ok (length b.printed, left)) → count ≡ length b.printed
+      counted e = ap (λ (p : ℕ × List ℕ). p.0) (both e)
+
+      left_is : ◌≡◌ {A = Result (ℕ × List ℕ) RecordFault} (Ok (count, rest)) (Ok (length b.printed, left)) → rest ≡ left
+      left_is e = ap (λ (p : ℕ × List ℕ). p.1) (both e)
+  step_taken (Err fault, b) count rest is = absurd (never (ap (λ (w : Played). w.0) is))
+    where
+      never : ◌≡◌ {A = Result (ℕ × List ℕ) RecordFault} (Ok (count, rest)) (Err fault) → ⊥
+      never e = cc
+
+  pub step_done : (count : ℕ) (rest : List ℕ) → ◌≡◌ {A = Played} (Ok (count, rest), after, then) (play_one bytes part line) → ◌≡◌ {A = Stepped} (Ok rest, bench after (before ++ take count then)) (one_record bytes (bench part before))
+  step_done count rest is = step_taken (one_record bytes (bench part [])) count rest is ∙ sym (step_behind bytes part before)
+
+  step_stopped : (did : Stepped) (fault : RecordFault) → Quiet did → ◌≡◌ {A = Played} (Err fault, after, then) (count_step did line) → ◌≡◌ {A = Stepped} (Err fault, bench after before) (behind before did)
+  unfolding Quiet
+  step_stopped (Ok left, b) fault quiet is = absurd (never (ap (λ (w : Played). w.0) is))
+    where
+      never : ◌≡◌ {A = Result (ℕ × List ℕ) RecordFault} (Err fault) (Ok (length b.printed, left)) → ⊥
+      never e = cc
+  step_stopped (Err other, b) fault quiet is =
+      ap {B = Stepped} (λ (f : RecordFault). (Err f, bench after before)) (same (ap (λ (w : Played). w.0) is)) ∙ ap {B = Stepped} (λ (p : PartState). (Err other, bench p before)) (ap (λ (w : Played). w.1) is) ∙ ap {B = Stepped} (λ (l : List ℕ). (Err other, bench b.part l)) (sym (append-nil before) ∙ ap (λ l. before ++ l) (sym (quiet other refl)))
+    where
+      same : ◌≡◌ {A = Result (ℕ × List ℕ) RecordFault} (Err fault) (Err other) → fault ≡ other
+      same e = cc
+
+  pub step_refused : (fault : RecordFault) → ◌≡◌ {A = Played} (Err fault, after, then) (play_one bytes part line) → ◌≡◌ {A = Stepped} (Err fault, bench after before) (one_record bytes (bench part before))
+  step_refused fault is = step_stopped (one_record bytes (bench part [])) fault (step_quiet bytes part) is ∙ sym (step_behind bytes part before)
+
+-- a part's answer to a record as the tape's step hands it on
+abbrev pub handed_on : List ℕ → Result ℕ Refusal → Result (ℕ × List ℕ) RecordFault
+handed_on rest (Ok count) = Ok (count, rest)
+handed_on rest (Err refusal) = Err (of_part refusal)
+
+-- A record that was read is done by itself.
+module _ (bytes rest : List ℕ) (r : Record) (part after : PartState) (line then : List ℕ) (answer : Result ℕ Refusal) where
+  by_done : (did : Done) → ◌≡◌ {A = Played} (handed_on rest (count_printed did line).0, (count_printed did line).1, (count_printed did line).2) (count_step (done_before rest did) line)
+  by_done (Ok done, b) = refl
+  by_done (Err why, b) = refl
+
+  pub record_handed_on : ◌≡◌ {A = RecordRead} (Ok (r, rest)) (read_record bytes) → ◌≡◌ {A = Result ℕ Refusal × PartState × List ℕ} (answer, after, then) (perform_record r part line) → ◌≡◌ {A = Played} (handed_on rest answer, after, then) (play_one bytes part line)
+  record_handed_on read did =
+      ap {B = Played} (λ (w : Result ℕ Refusal × PartState × List ℕ). (handed_on rest w.0, w.1, w.2)) did ∙ by_done (do_record r (bench part [])) ∙ ap (λ (x : RecordRead). count_step (do_read x (bench part [])) line) read

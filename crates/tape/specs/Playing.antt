@@ -1,5 +1,6 @@
 -- What a tape does: its records are done one after the other on the part, printing in order, until the tape ends or a record is refused.
-use Rattle.std.specs.Prelude.{ℕ, zero, suc, ◌-◌, ◌/◌, ◌%◌, List, [], ◌∷◌, ◌++◌, length, Ok, Err, Result}
+use Rattle.std.specs.Prelude.{ℕ, zero, suc, ◌-◌, ◌/◌, ◌%◌, List, [], ◌∷◌, ◌++◌, length, drop, Ok, Err, Result}
+use Rattle.std.specs.Borrow.{Bor}
 use Rattle.lines.specs.Lines.{record_text}
 use Rattle.refusals.specs.declared.Refusal.{Refusal}
 use Rattle.rx5c348a.specs.Part.{PartState, load_part, pulse_part}
@@ -75,6 +76,41 @@ do_read (Err refused) b = (Err (of_tape refused), b)
 -- one record from the front of the tape is read and done
 abbrev pub one_record : List ℕ → Bench → Stepped
 one_record bytes b = do_read (read_record bytes) b
+
+-- how many bytes a record printed, where it was done
+abbrev pub printed_count : ℕ → Result (Unit {0}) Refusal → Result ℕ Refusal
+printed_count count (Ok done) = Ok count
+printed_count count (Err refusal) = Err refusal
+
+abbrev pub with_count : ℕ → Result (List ℕ) RecordFault → Result (ℕ × List ℕ) RecordFault
+with_count count (Ok rest) = Ok (count, rest)
+with_count count (Err fault) = Err fault
+
+-- a text at the front of a buffer, the rest of which stays
+abbrev pub in_front : List ℕ → List ℕ → List ℕ
+in_front text buffer = text ++ drop (length text) buffer
+
+-- A record done by itself: how many bytes it prints, the part, and the line at whose front they stand.
+abbrev pub count_printed : Done → List ℕ → Result ℕ Refusal × PartState × List ℕ
+count_printed did line = (printed_count (length did.1.printed) did.0, did.1.part, in_front did.1.printed line)
+
+abbrev pub perform_record : Record → PartState → List ℕ → Result ℕ Refusal × PartState × List ℕ
+perform_record r part line = count_printed (do_record r (bench part [])) line
+
+-- One record of a tape played by itself: what it prints, the rest of the tape, the part and the line.
+abbrev pub Played : Type 0
+Played = Result (ℕ × List ℕ) RecordFault × PartState × List ℕ
+
+abbrev pub count_step : Stepped → List ℕ → Played
+count_step did line = (with_count (length did.1.printed) did.0, did.1.part, in_front did.1.printed line)
+
+abbrev pub play_one : List ℕ → PartState → List ℕ → Played
+play_one bytes part line = count_step (one_record bytes (bench part [])) line
+
+-- what the code answers, with the bytes that it points to
+abbrev pub step_view : Result (ℕ × Bor (List ℕ)) RecordFault → Result (ℕ × List ℕ) RecordFault
+step_view (Ok step) = Ok (step.0, step.1.now)
+step_view (Err fault) = Err fault
 
 -- a fault has the place of its record
 abbrev pub place_fault : ℕ → Result (List ℕ) RecordFault → Result (List ℕ) TapeFault

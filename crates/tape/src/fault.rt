@@ -10,7 +10,7 @@ use refusals::Refusal;
 
 // A record that is refused, before its place is known.
 // Who refused stands beside the refusal: a line prints both, so two cases would be taken apart at once.
-#[derive(Clone, Copy)]
+#[derive(Clone, Copy, PartialEq, Eq, Debug)]
 pub struct RecordFault {
     pub refusal: Refusal,
     pub origin: Origin,

@@ -6,6 +6,8 @@ mod line_buffers;
 #[cfg(test)]
 mod printout;
 #[cfg(test)]
+mod records;
+#[cfg(test)]
 mod tapes;
 #[cfg(test)]
 mod wires;

@@ -10,18 +10,20 @@ pub loop-self-preserved : goal.loop-self-preserved
 loop-self-preserved c =
     let total = length c.args.self.now.rest.now in
     let before = bench (seen c.loop-self.part) (vec_items c.loop-self.self.printed) in
-    let told = c.in_ok-step_at.ensures in (
-      ap (then_on (play_rest total)) told.does ∙ sym (plays_on total c.loop-self.self.rest.now before (search rules)) ∙ c.loop-self.invariant.0,
-      omega (arith, told.shorter, c.loop-self.invariant.1),
-    )
+    let told = c.in_ok-step_at.ensures in
+    record {
+      goes_on = ap (then_on (play_rest total)) told.does ∙ sym (plays_on total c.loop-self.self.rest.now before (search rules)) ∙ c.loop-self.invariant.goes_on;
+      shorter = omega (arith, told.shorter, c.loop-self.invariant.shorter);
+      room = told.room ∙ c.loop-self.invariant.room;
+    }
 
-pub returns-in_err-step_at : goal.returns-in_err-step_at
-returns-in_err-step_at c =
+pub returns-in_err-step_at-clause-does : goal.returns-in_err-step_at-clause-does
+returns-in_err-step_at-clause-does c =
     let total = length c.args.self.now.rest.now in
     let before = bench (seen c.loop-self.part) (vec_items c.loop-self.self.printed) in
     let after = bench (seen c.step_at.new.part) (vec_items c.step_at.new.self.printed) in
     let p = err_from_is_err_and c.from_residual.result c.from_residual.ensures.1 in
-    ap {B = Outcome} (λ (r : Result (Unit {0}) TapeFault). (r, after)) p.1 ∙ ap {B = Outcome} (λ (f : TapeFault). (Err f, after)) p.2 ∙ ap (then_on (play_rest total)) c.in_err-step_at.ensures.does ∙ sym (plays_on total c.loop-self.self.rest.now before (search rules)) ∙ c.loop-self.invariant.0
+    ap {B = Outcome} (λ (r : Result (Unit {0}) TapeFault). (r, after)) p.1 ∙ ap {B = Outcome} (λ (f : TapeFault). (Err f, after)) p.2 ∙ ap (then_on (play_rest total)) c.in_err-step_at.ensures.does ∙ sym (plays_on total c.loop-self.self.rest.now before (search rules)) ∙ c.loop-self.invariant.goes_on
 
-pub returns : goal.returns
-returns c = sym (plays_out _ _ _ (search rules)) ∙ c.loop-self.invariant.0
+pub returns-clause-does : goal.returns-clause-does
+returns-clause-does c = sym (plays_out _ _ _ (search rules)) ∙ c.loop-self.invariant.goes_on

@@ -1,23 +1,24 @@
-use Rattle.std.proofs.Common.{ℕ, List, Ok, vec_len, vec_capacity, ap, arith}
+use Rattle.std.proofs.Common.{Ok, Err, Result, List, vec_items, ap, ◌∙◌}
+use Rattle.std.proofs.lemmas.Result.{err_from_is_err_and}
 use Rattle.rx5c348a.specs.Part.{seen}
-use Rattle.tape.specs.Playing.{Done, bench, printing}
-use Rattle.tape.proofs.Printing.{short, front_is, added, added_short}
-use Rattle.tape.proofs.play.Playing.print.Goals as goal
+use Rattle.tape.specs.declared.fault.RecordFault.{RecordFault}
+use Rattle.tape.specs.Playing.{Stepped, bench, rest_after_step}
+use Rattle.tape.proofs.Stepping.{step_done, step_refused}
+use Rattle.tape.proofs.play.Playing.step.Goals as goal
 
-pub invariant_of-self : goal.invariant_of-self
-invariant_of-self c =
-    let part = c.args.part.now in
-    let is_short = short c.args.number c.ranges.number.fits (seen part).file part.registers.core.map.cells.seven c.registers.result c.registers.ensures in
-    let front = front_is c.args.number c.ranges.number.fits (seen part).file part.registers.core.map.cells.seven c.registers.result c.registers.ensures _ _ c.record_line.ensures _ c.in_ok-length.was in
-    let more = c.extend_from_slice.ensures in
-    let holds = added_short _ _ (vec_len c.args.self.now.printed) (vec_capacity c.args.self.now.printed) _ front is_short (omega (arith, c.requires)) more.succeeds _ more.len in
-    record { room = omega (arith, holds, more.capacity, c.requires) }
+pub returns-in_err-length-clause-does : goal.returns-in_err-length-clause-does
+returns-in_err-length-clause-does c =
+    let p = err_from_is_err_and c.from_residual.result c.from_residual.ensures.1 in
+    let tape = c.args.self.now.rest.now in
+    let printed = vec_items c.args.self.now.printed in
+    let after = seen c.play_record.new.part in
+    ap {B = Stepped} (λ (r : Result (Unit {0}) RecordFault). (rest_after_step r tape, bench after printed)) p.1 ∙ ap {B = Stepped} (λ (f : RecordFault). (Err f, bench after printed)) p.2 ∙ step_refused tape (seen c.args.part.now) after printed _ c.play_record.new.line _ c.in_err-length.ensures.does
 
 pub returns-clause-does : goal.returns-clause-does
-unfolding printing
 returns-clause-does c =
-    let part = c.args.part.now in
-    let is_short = short c.args.number c.ranges.number.fits (seen part).file part.registers.core.map.cells.seven c.registers.result c.registers.ensures in
-    let front = front_is c.args.number c.ranges.number.fits (seen part).file part.registers.core.map.cells.seven c.registers.result c.registers.ensures _ _ c.record_line.ensures _ c.in_ok-length.was in
-    let more = c.extend_from_slice.ensures in
-    ap {B = Done} (λ (l : List ℕ). (Ok tt, bench (seen part) l)) (added _ _ (vec_len c.args.self.now.printed) (vec_capacity c.args.self.now.printed) _ front is_short (omega (arith, c.requires)) more.succeeds _ _ more.items)
+    let tape = c.args.self.now.rest.now in
+    let printed = vec_items c.args.self.now.printed in
+    let after = seen c.play_record.new.part in
+    let rest = c.in_ok-length.rest.now in
+    let line = c.play_record.new.line in
+    ap {B = Stepped} (λ (l : List _). (Ok rest, bench after l)) c.append_reserved.ensures.items ∙ step_done tape (seen c.args.part.now) after printed _ line c.in_ok-length.length rest c.in_ok-length.ensures.does
