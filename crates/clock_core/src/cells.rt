@@ -1,6 +1,6 @@
 // The cells of a core, read and written, and its sixteen registers.
-ghost use Rattle.std.specs.Prelude.{◌≡◌, ℕ, List, slice_index};
-ghost use Rattle.clock_core.specs.Core.{read_cell, write_cell, registers, copied_front};
+ghost use Rattle.std.specs.Prelude.{◌≡◌, slice_index};
+ghost use Rattle.clock_core.specs.Core.{read_cell, write_cell, registers, copied_front, look_at};
 ghost use Rattle.clock_core.specs.View.{meant};
 
 use crate::clock::ClockCore;
@@ -17,21 +17,6 @@ pub fn copy_front(sixteen: &[u8; 16], buffer: &mut [u8]) -> Result<(), Refusal>
     }
     buffer[..16].copy_from_slice(sixteen);
     Ok(())
-}
-
-// A thing with sixteen registers, which makers and hosts look at.
-pub trait Registers {
-    ghost row: { Self → List ℕ };
-
-    fn registers(&self) -> [u8; 16]
-        ensures { result ≡ row self.now };
-
-    // Puts registers 0 to 15 first in a buffer.
-    fn look(&self, buffer: &mut [u8]) -> Result<(), Refusal>
-        ensures { (result, buffer.new) ≡ copied_front (row self.now) buffer.old }
-    {
-        copy_front(&self.registers(), buffer)
-    }
 }
 
 impl<M: RegisterMap> ClockCore<M> {
@@ -65,17 +50,22 @@ impl<M: RegisterMap> ClockCore<M> {
             0
         }
     }
-}
 
-impl<M: RegisterMap> Registers for ClockCore<M> {
-    // the cells, then zeros
-    ghost row = { λ s. registers (meant M.RegisterMap s) };
-
-    fn registers(&self) -> [u8; 16] {
+    /// Registers 0 to 15: the cells, then zeros.
+    pub fn registers(&self) -> [u8; 16]
+        ensures { result ≡ registers (meant M.RegisterMap self.now) }
+    {
         array::from_fn(
             |number| -> u8
                 ensures { result ≡ slice_index (registers (meant M.RegisterMap self.entry.now)) number }
             { self.register(number) },
         )
+    }
+
+    /// Puts registers 0 to 15 first in a buffer.
+    pub fn look(&self, buffer: &mut [u8]) -> Result<(), Refusal>
+        ensures { (result, buffer.new) ≡ look_at (meant M.RegisterMap self.now) buffer.old }
+    {
+        copy_front(&self.registers(), buffer)
     }
 }

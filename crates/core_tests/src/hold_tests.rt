@@ -1,6 +1,5 @@
 // Held stretches: what waits, what is lost, and what is read meanwhile.
 use crate::cores::{cells_read, core_at, give, seconds_since, whole_seconds};
-use clock_core::cells::Registers;
 use register_map::hour_mode::HourMode;
 use std::test::Fail;
 

@@ -6,7 +6,6 @@ ghost use Rattle.timekeeping.specs.CoreCalls.{do_call, core_machine};
 ghost use Rattle.timekeeping.specs.Logs.{outcome};
 ghost use Rattle.timekeeping.specs.Law.{KeepsTime};
 
-use clock_core::cells::Registers;
 use clock_core::clock::ClockCore;
 use refusals::Refusal;
 use register_map::map::RegisterMap;

@@ -1,7 +1,6 @@
 // What each call refuses, by number, and that a refused call changes nothing.
 use crate::cores::{MIDNIGHT, core_at, map_at};
 use byte_map::map::ByteMap;
-use clock_core::cells::Registers;
 use clock_core::clock::ClockCore;
 use clock_core::setting::Setting;
 use refusals::Refusal;

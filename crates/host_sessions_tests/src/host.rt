@@ -1,5 +1,4 @@
 // A host with a session for each call, and parts for it.
-use clock_core::cells::Registers;
 use clock_core::setting::Setting;
 use host_sessions::idle::IdleSession;
 use host_sessions::open::OpenSession;

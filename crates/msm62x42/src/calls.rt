@@ -1,10 +1,10 @@
 // The calls of the part.
 ghost use Rattle.std.specs.Prelude.{◌≡◌, slice_index};
-ghost use Rattle.msm62x42.specs.Part.{seen, power_on, load_part, pulse_part, read_part, write_part, deselected, registers};
+ghost use Rattle.msm62x42.specs.Part.{seen, power_on, load_part, pulse_part, read_part, write_part, deselected, registers, look_part};
 
 use crate::control::HOLD_REGISTER;
 use crate::part::Msm62x42;
-use clock_core::cells::Registers;
+use clock_core::cells::copy_front;
 use clock_core::clock::ClockCore;
 use clock_core::setting::Setting;
 use digit_map::map::DigitMap;
@@ -81,16 +81,22 @@ impl Msm62x42 {
     {
         let _ = self.core.release();
     }
-}
 
-impl Registers for Msm62x42 {
-    ghost row = { λ p. registers (seen p) };
-
-    fn registers(&self) -> [u8; 16] {
+    /// Registers 0 to Fh.
+    pub fn registers(&self) -> [u8; 16]
+        ensures { result ≡ registers (seen self.now) }
+    {
         array::from_fn(
             |address| -> u8
                 ensures { result ≡ slice_index (registers (seen self.entry.now)) address }
             { self.register(address) },
         )
+    }
+
+    /// Puts registers 0 to Fh first in a buffer.
+    pub fn look(&self, buffer: &mut [u8]) -> Result<(), Refusal>
+        ensures { (result, buffer.new) ≡ look_part (seen self.now) buffer.old }
+    {
+        copy_front(&self.registers(), buffer)
     }
 }

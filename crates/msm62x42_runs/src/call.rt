@@ -8,7 +8,7 @@ ghost use Rattle.msm62x42_runs.specs.Calls.{do_call, hold_stands, part_sight};
 use msm62x42::part::Msm62x42;
 use refusals::Refusal;
 use timekeeping::call::CoreAnswer;
-use timekeeping::work::{Call, look_with};
+use timekeeping::work::Call;
 
 #[derive(Clone, Copy, PartialEq, Eq, Debug)]
 pub enum PartCall {
@@ -43,7 +43,11 @@ impl Call<Msm62x42> for PartCall {
     fn call(self, part: &mut Msm62x42) -> Result<CoreAnswer, Refusal> {
         match self {
             PartCall::Read(address) => return part.read(address).map(CoreAnswer::Byte),
-            PartCall::Look(room) => return look_with(part, room).map(CoreAnswer::Registers),
+            PartCall::Look(room) => {
+                let mut row = [0u8; 16];
+                part.look(&mut row[..room.min(16)])?;
+                return Ok(CoreAnswer::Registers(row));
+            }
             PartCall::Load(moment, weekday, mode) => part.load(moment, weekday, mode)?,
             PartCall::Pulses(count) => part.pulses(count)?,
             PartCall::Write(address, data) => part.write(address, data)?,

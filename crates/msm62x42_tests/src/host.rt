@@ -1,5 +1,4 @@
 // A host that drives the part as operating systems do, and parts for it.
-use clock_core::cells::Registers;
 use msm62x42::part::Msm62x42;
 use std::test::Fail;
 

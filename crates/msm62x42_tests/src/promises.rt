@@ -6,7 +6,6 @@ ghost use Rattle.msm62x42_runs.specs.Calls.{do_call, part_machine};
 ghost use Rattle.timekeeping.specs.Logs.{outcome};
 ghost use Rattle.timekeeping.specs.Law.{KeepsTime};
 
-use clock_core::cells::Registers;
 use msm62x42::part::Msm62x42;
 use msm62x42_runs::call::PartCall;
 use refusals::Refusal;

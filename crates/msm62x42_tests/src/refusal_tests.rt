@@ -1,6 +1,5 @@
 // What each call refuses, by number, and that a refused call changes nothing.
 use crate::host::*;
-use clock_core::cells::Registers;
 use refusals::Refusal;
 use std::test::Fail;
 

@@ -1,10 +1,9 @@
 // Power-on, load, halt and pulses, and the registers that a look copies.
 ghost use Rattle.std.specs.Prelude.{◌≡◌};
 ghost use Rattle.rx5c_registers.specs.File.{registers};
-ghost use Rattle.rx5c348a.specs.Part.{seen, power_on, load_part, halt_part, pulse_part};
+ghost use Rattle.rx5c348a.specs.Part.{seen, power_on, load_part, halt_part, pulse_part, look_part};
 
 use crate::part::Rx5c348a;
-use clock_core::cells::Registers;
 use clock_core::setting::Setting;
 use refusals::Refusal;
 use rx5c_registers::file::RegisterFile;
@@ -51,12 +50,18 @@ impl Rx5c348a {
     {
         self.registers.pulses(count)
     }
-}
 
-impl Registers for Rx5c348a {
-    ghost row = { λ p. registers (seen p).file };
-
-    fn registers(&self) -> [u8; 16] {
+    /// Registers 0 to Fh.
+    pub fn registers(&self) -> [u8; 16]
+        ensures { result ≡ registers (seen self.now).file }
+    {
         self.registers.registers()
+    }
+
+    /// Puts registers 0 to Fh first in a buffer.
+    pub fn look(&self, buffer: &mut [u8]) -> Result<(), Refusal>
+        ensures { (result, buffer.new) ≡ look_part (seen self.now) buffer.old }
+    {
+        self.registers.look(buffer)
     }
 }

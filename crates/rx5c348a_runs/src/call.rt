@@ -9,7 +9,7 @@ use clock_core::setting::Setting;
 use refusals::Refusal;
 use rx5c348a::part::Rx5c348a;
 use rx5c348a::pins::PinAnswer;
-use timekeeping::work::{Call, look_with};
+use timekeeping::work::Call;
 
 #[derive(Clone, Copy, PartialEq, Eq, Debug)]
 pub enum WireCall {
@@ -51,7 +51,11 @@ impl Call<Rx5c348a> for WireCall {
             WireCall::Load(to) => part.load(to)?,
             WireCall::Pulses(count) => part.pulses(count)?,
             WireCall::Pins(levels) => return part.pins(levels).map(WireAnswer::Levels),
-            WireCall::Look(room) => return look_with(part, room).map(WireAnswer::Registers),
+            WireCall::Look(room) => {
+                let mut row = [0u8; 16];
+                part.look(&mut row[..room.min(16)])?;
+                return Ok(WireAnswer::Registers(row));
+            }
         }
         Ok(WireAnswer::Accepted)
     }

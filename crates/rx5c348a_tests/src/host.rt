@@ -1,5 +1,4 @@
 // A host on the four wires, bit by bit, and parts for it.
-use clock_core::cells::Registers;
 use clock_core::setting::Setting;
 use rx5c348a::part::Rx5c348a;
 use std::process::Abort;

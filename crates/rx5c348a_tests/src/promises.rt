@@ -8,7 +8,6 @@ ghost use Rattle.rx5c348a_runs.specs.Start.{AtRest};
 ghost use Rattle.timekeeping.specs.Logs.{outcome};
 ghost use Rattle.timekeeping.specs.Law.{KeepsTime};
 
-use clock_core::cells::Registers;
 use refusals::Refusal;
 use rx5c_registers::file::RegisterFile;
 use rx5c348a::part::Rx5c348a;

@@ -1,6 +1,5 @@
 // What each call refuses, by number, and that a refused call changes nothing.
 use crate::host::*;
-use clock_core::cells::Registers;
 use clock_core::setting::Setting;
 use refusals::Refusal;
 use rx5c348a::part::Rx5c348a;

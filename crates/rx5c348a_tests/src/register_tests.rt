@@ -1,6 +1,5 @@
 // The registers: unused bits, what writing some of them does besides, power-on, load and halt.
 use crate::host::*;
-use clock_core::cells::Registers;
 use clock_core::setting::Setting;
 use rx5c348a::part::Rx5c348a;
 use std::process::Abort;

@@ -1,9 +1,10 @@
 // What the sixteen registers read.
 ghost use Rattle.std.specs.Prelude.{◌≡◌, ◌-◌, ◌<◌, ◌≤◌, slice_index};
-ghost use Rattle.rx5c_registers.specs.File.{file_seen, registers, upper_registers, control_byte, flag_byte, bit_if, interrupts};
+ghost use Rattle.rx5c_registers.specs.File.{file_seen, registers, upper_registers, control_byte, flag_byte, bit_if, interrupts, look_at};
 
 use crate::file::RegisterFile;
-use clock_core::cells::Registers;
+use clock_core::cells::copy_front;
+use refusals::Refusal;
 use register_map::map::RegisterMap;
 use std::array;
 
@@ -81,17 +82,23 @@ impl RegisterFile {
     {
         self.alarms.iter().any(|row| row.flag)
     }
-}
 
-impl Registers for RegisterFile {
-    ghost row = { λ f. registers (file_seen f) };
-
-    fn registers(&self) -> [u8; 16] {
+    /// Registers 0 to Fh.
+    pub fn registers(&self) -> [u8; 16]
+        ensures { result ≡ registers (file_seen self.now) }
+    {
         array::from_fn(
             |address| -> u8
                 requires { address < 16 }
                 ensures { result ≡ slice_index (registers (file_seen self.entry.now)) address }
             { self.read(address as u8) },
         )
+    }
+
+    /// Puts registers 0 to Fh first in a buffer.
+    pub fn look(&self, buffer: &mut [u8]) -> Result<(), Refusal>
+        ensures { (result, buffer.new) ≡ look_at (file_seen self.now) buffer.old }
+    {
+        copy_front(&self.registers(), buffer)
     }
 }

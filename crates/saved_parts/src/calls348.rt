@@ -7,7 +7,6 @@ ghost use Rattle.saved_parts.specs.Calls348.{powered_on, pins_counted, loaded, h
 
 use crate::answer::{NO_SAVED_STATE, counted};
 use crate::part348::Saved348;
-use clock_core::cells::Registers;
 use clock_core::setting::Setting;
 use refusals::Refusal;
 use rx5c348a::part::Rx5c348a;

@@ -7,7 +7,6 @@ ghost use Rattle.saved_parts.specs.Calls62.{powered_on, loaded, pulsed, register
 
 use crate::answer::{NO_SAVED_STATE, counted};
 use crate::part62::Saved62;
-use clock_core::cells::Registers;
 use msm62x42::part::Msm62x42;
 use refusals::Refusal;
 

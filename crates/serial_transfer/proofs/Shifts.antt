@@ -1,7 +1,8 @@
 -- Shifts and masks against arithmetic, and bytes gathered bit by bit.
-use Rattle.std.proofs.Common.{◌≡◌, ℕ, suc, ◌+◌, ◌*◌, ◌/◌, ◌%◌, ◌^◌, ◌<◌, sym, ap, ◌∙◌, ap₂, arith}
+use Rattle.std.proofs.Common.{◌≡◌, ℕ, suc, ◌+◌, ◌*◌, ◌/◌, ◌%◌, ◌^◌, ◌<◌, ◌≤◌, zero-add, sym, ap, ◌∙◌, ap₂, arith}
 use lib.Bits.{bit_and, bit_or}
-use Rattle.std.proofs.lemmas.Nat.{and_mask, or_shifted, shr-shr, shr_le, mod-mul-add}
+use Rattle.std.proofs.lemmas.Nat.{and_mask, or_shifted, shr-shr, shr_le, shr_below, mod-mul-add}
+use native.Mathlib.Nat.{pow-le-pow_right}
 use Rattle.serial_transfer.specs.Levels.{taken, bit_at}
 
 -- a shift by one and a bit behind it
@@ -19,3 +20,11 @@ taken_more byte place h =
     let half : byte / 2 ^ place / 2 ≡ byte / 2 ^ suc place = shr-shr byte place 1 ∙ ap (λ (k : ℕ). byte / 2 ^ k) (omega arith) in
     let small = shr_le byte place in
     ap (λ (k : ℕ). taken k (bit_at byte place)) (sym half) ∙ omega arith
+
+-- a byte has no bit beyond its eight
+pub no_bit : (byte place : ℕ) → byte < 256 → 8 ≤ place → 0 ≡ bit_at byte place
+no_bit byte place fits beyond =
+    let large : 2 ^ 8 ≤ 2 ^ place = pow-le-pow_right {n = 2} (omega arith) {i = 8} {j = place} beyond in
+    let below : byte < 2 ^ (0 + place) = rw (zero-add place) (omega arith) in
+    let none : byte / 2 ^ place < 1 = shr_below byte 0 place below in
+    omega arith

@@ -10,12 +10,12 @@ pub fn taken_in(gathered: u8, level: u8) -> u8
     (gathered << 1) | (level & 1)
 }
 
-// A bit of a byte: 7 is the highest, 0 the lowest.
+/// A bit of a byte: 7 is the highest, 0 the lowest, and beyond 7 there is none that is set.
+#[tactic(auto, using(crate::proofs::Shifts::no_bit))]
 pub fn bit_of(byte: u8, place: u8) -> u8
-    requires { place < 8 }
     ensures { result ≡ bit_at byte place }
 {
-    (byte >> place) & 1
+    if place < 8 { (byte >> place) & 1 } else { 0 }
 }
 
 // The low four bits.

@@ -7,7 +7,6 @@ ghost use Rattle.tape.specs.Written.{InOrder};
 
 use crate::fault::{RecordFault, TapeFault};
 use crate::record::{Record, read_record};
-use clock_core::cells::Registers;
 use clock_core::setting::Setting;
 use lines::{Origin, record_line};
 use refusals::Refusal;

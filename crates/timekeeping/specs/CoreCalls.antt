@@ -28,9 +28,6 @@ abbrev pub accepted_with : Acceptance × CoreState → Answer × CoreState
 accepted_with r = (acceptance r.0, r.1)
 
 -- a look at sixteen registers with a buffer of so many bytes
-abbrev pub row_seen : List ℕ → ℕ → Result (List ℕ) Refusal
-row_seen row room = cond (nat_lt room 16) (Err ShortBuffer) (Ok row)
-
 abbrev pub registers_seen : CoreState → ℕ → Answer
 registers_seen s room = cond (nat_lt room 16) (Err ShortBuffer) (Ok (Registers (registers s)))
 

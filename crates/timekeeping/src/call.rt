@@ -4,7 +4,7 @@ ghost use Rattle.clock_core.specs.Core.{CoreState};
 ghost use Rattle.clock_core.specs.View.{meant};
 ghost use Rattle.timekeeping.specs.CoreCalls.{do_call, core_sight};
 
-use crate::work::{Call, look_with};
+use crate::work::Call;
 use clock_core::clock::ClockCore;
 use refusals::Refusal;
 use register_map::hour_mode::HourMode;
@@ -53,7 +53,11 @@ impl<M: RegisterMap> Call<ClockCore<M>> for CoreCall {
     fn call(self, core: &mut ClockCore<M>) -> Result<CoreAnswer, Refusal> {
         match self {
             CoreCall::Read(cell) => return core.read(cell).map(CoreAnswer::Byte),
-            CoreCall::Look(room) => return look_with(core, room).map(CoreAnswer::Registers),
+            CoreCall::Look(room) => {
+                let mut row = [0u8; 16];
+                core.look(&mut row[..room.min(16)])?;
+                return Ok(CoreAnswer::Registers(row));
+            }
             CoreCall::Pulses(count) => core.pulses(count)?,
             CoreCall::Hold => core.hold()?,
             CoreCall::Release => core.release()?,

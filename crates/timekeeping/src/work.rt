@@ -4,11 +4,9 @@ ghost use Rattle.refusals.specs.declared.Refusal.{Refusal as Why};
 ghost use Rattle.register_map.specs.declared.hour_mode.HourMode.{HourMode};
 ghost use Rattle.register_map.specs.Chart.{Chart};
 ghost use Rattle.clock_core.specs.Core.{CoreState};
-ghost use Rattle.timekeeping.specs.CoreCalls.{row_seen};
 ghost use Rattle.timekeeping.specs.Logs.{Sight, Heard, machine_of, outcome};
 ghost use Rattle.timekeeping.specs.Law.{KeepsTime};
 
-use clock_core::cells::Registers;
 use refusals::Refusal;
 use std::alloc::{AllocError, Global};
 
@@ -42,15 +40,6 @@ pub trait Call<T>: Copy {
     // Says that every list of these calls keeps time.
     fn keeps_time()
         ensures { (start : State) → begins start → (calls : List Self) → KeepsTime (machine_of step core sight) chart start calls };
-}
-
-// A look with a buffer of so many bytes.
-pub fn look_with<T: Registers>(thing: &T, room: usize) -> Result<[u8; 16], Refusal>
-    ensures { result ≡ row_seen (T.Registers.row thing.now) room }
-{
-    let mut buffer = [0u8; 16];
-    thing.look(&mut buffer[..room.min(16)])?;
-    Ok(buffer)
 }
 
 // Works a list of calls, one after the other, and gives their answers. From a newly made core the list keeps time.

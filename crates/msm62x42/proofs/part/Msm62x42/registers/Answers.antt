@@ -1,7 +1,7 @@
 use Rattle.std.proofs.Common.{◌≡◌, length, arith, rules, length-append}
 use Rattle.clock_core.proofs.Rows.{made_same}
 use Rattle.msm62x42.specs.Part.{registers, seen}
-use Rattle.msm62x42.proofs.calls.Msm62x42Registers.registers.Goals as goal
+use Rattle.msm62x42.proofs.part.Msm62x42.registers.Goals as goal
 
 pub returns : goal.returns
 returns c =

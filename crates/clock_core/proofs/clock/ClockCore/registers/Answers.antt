@@ -2,7 +2,7 @@ use Rattle.std.proofs.Common.{arith, rules}
 use Rattle.clock_core.specs.Core.{registers}
 use Rattle.clock_core.specs.View.{meant}
 use Rattle.clock_core.proofs.Rows.{made_same, filled_length}
-use Rattle.clock_core.proofs.cells.ClockCoreRegisters.registers.Goals as goal
+use Rattle.clock_core.proofs.clock.ClockCore.registers.Goals as goal
 
 pub returns : goal.returns
 returns g c =

@@ -2,7 +2,7 @@ use Rattle.std.proofs.Common.{rules}
 use Rattle.clock_core.proofs.Rows.{made_same}
 use Rattle.rx5c_registers.specs.File.{file_seen, registers}
 use Rattle.rx5c_registers.proofs.Rows.{sixteen_registers}
-use Rattle.rx5c_registers.proofs.reading.RegisterFileRegisters.registers.Goals as goal
+use Rattle.rx5c_registers.proofs.file.RegisterFile.registers.Goals as goal
 
 pub returns : goal.returns
 returns c =
