@@ -1,3 +1,4 @@
+pub mod Effects
 pub mod Rows
 pub mod Runs
 pub mod Values

@@ -9,13 +9,14 @@ use Rattle.digit_map.specs.Cells.{digit_chart}
 use Rattle.digit_map.specs.RowLaws.{digit_chart_lawful}
 use Rattle.clock_core.specs.Core.{CoreState, Accepted as Acceptance, with_map, many_pulses, released, set_core_mode, hold_core, release_core, load_refusal, loaded, unless_refused}
 use Rattle.msm62x42.specs.Part.{hour_mode_of, registers, control_registers, written}
+use Rattle.clock_core.proofs.Effects.{pulses_held}
 use Rattle.timekeeping.specs.declared.call.CoreAnswer.TheVariants.{Registers}
 use Rattle.timekeeping.specs.CoreCalls.{Answer, accepted_with, byte_read, same_mode, one_cell}
 use Rattle.timekeeping.specs.Law.{KeepsTime}
 use Rattle.timekeeping.specs.Logs.{Sight, Wrote, Nothing, Heard, Log, state_after}
 use Rattle.timekeeping.proofs.CoreSights.{acts_mode}
 use Rattle.timekeeping.proofs.Heard.{Truly}
-use Rattle.timekeeping.proofs.Keeping.{Acts, held_core, pulses_held}
+use Rattle.timekeeping.proofs.Keeping.{Acts, held_core}
 use Rattle.timekeeping.proofs.Theorem.{TrueToSights, the_law}
 use Rattle.msm62x42_runs.specs.declared.call.PartCall.{PartCall}
 use Rattle.msm62x42_runs.specs.declared.call.PartCall.TheVariants.{Load, Pulses, Read, Write, Deselect, Look}

@@ -11,14 +11,15 @@ use Rattle.clock_core.specs.declared.setting.Setting.{Setting}
 use Rattle.clock_core.specs.Core.{CoreState, Accepted as Acceptance, loaded, load_refusal, unless_refused}
 use Rattle.rx5c_registers.specs.File.{FileState, registers, has}
 use Rattle.rx5c_registers.specs.Clock as clock
-use Rattle.rx5c_registers.proofs.Ringing.{taken_core}
+use Rattle.clock_core.proofs.Effects.{pulses_held, pulses_map}
+use Rattle.rx5c_registers.proofs.Effects.{taken_core}
 use Rattle.rx5c_registers.proofs.Rows.{lower_register}
 use Rattle.rx5c348a.specs.Part.{PartState, with_file, after_load, load_part, pulse_part}
 use Rattle.rx5c348a.specs.Pins.{pins_part}
 use Rattle.timekeeping.specs.Law.{NewlyMade, KeepsTime}
 use Rattle.timekeeping.specs.Logs.{Log, state_after}
 use Rattle.timekeeping.proofs.Heard.{Truly}
-use Rattle.timekeeping.proofs.Keeping.{Acts, pulses_held}
+use Rattle.timekeeping.proofs.Keeping.{Acts}
 use Rattle.timekeeping.proofs.Loads.{loads_new}
 use Rattle.timekeeping.proofs.Theorem.{TrueToSights, the_law}
 use Rattle.rx5c348a_runs.specs.declared.call.WireCall.{WireCall}
@@ -27,7 +28,7 @@ use Rattle.rx5c348a_runs.specs.declared.call.WireAnswer.TheVariants.{Registers}
 use Rattle.rx5c348a_runs.specs.Onlooker.{Notes, silent}
 use Rattle.rx5c348a_runs.specs.Calls.{Answered, acceptance, do_call, work_one, note, notes, load_noted, load_sight, pulses_sight, look_sight, call_sight, part_machine}
 use Rattle.rx5c348a_runs.specs.Start.{AtRest, Loaded, LoadedIsNew}
-use Rattle.rx5c348a_runs.proofs.Sound.{Sound, sound_code, sound_pulses, held_map}
+use Rattle.rx5c348a_runs.proofs.Sound.{Sound, sound_code, sound_pulses}
 use Rattle.rx5c348a_runs.proofs.Tracking.{PhaseBy, Tracks, pins_step}
 
 -- one call more: the notes follow, and the core does what he makes of it
@@ -74,7 +75,7 @@ module _ (mode : HourMode) (e : Notes) (p : PartState) (t : Tracks e p) where
         sound = subst Sound (sym (ap (λ (s : CoreState). s.map) core)) (sound_pulses n p.file.core t.sound);
         phase =
             phase_stays e.ce p.file.core.map.cells (clock.pulses_taken n p.file).core.map.cells
-            (λ up. ap (λ (s : CoreState). s.map.cells) core ∙ ap (λ (m : MapState). m.cells) (held_map n p.file.core (t.held ∙ up))) t.phase;
+            (λ up. ap (λ (s : CoreState). s.map.cells) core ∙ ap (λ (m : MapState). m.cells) (pulses_map byte_chart n p.file.core (t.held ∙ up))) t.phase;
       }
 
   pulses_act : (n : ℕ) (refused : Bool) → Acts byte_chart mode (pulses_sight n (acceptance (after_pulses n refused).0)) p.file.core (after_pulses n refused).1.core

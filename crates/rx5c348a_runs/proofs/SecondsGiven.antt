@@ -12,7 +12,7 @@ use Rattle.rx5c348a_runs.specs.declared.call.WireCall.{WireCall}
 use Rattle.rx5c348a_runs.specs.Onlooker.{Notes, silent}
 use Rattle.rx5c348a_runs.specs.Calls.{do_call, work_one, notes, call_sight, part_machine}
 use Rattle.rx5c348a_runs.specs.Example.{with_seconds, seconds_given}
-use Rattle.rx5c348a_runs.proofs.Sound.{held_map}
+use Rattle.clock_core.proofs.Effects.{pulses_map}
 use Rattle.rx5c348a_runs.proofs.Tracking.{Tracks, never}
 use Rattle.rx5c348a_runs.proofs.Runs.{tracked, part_true}
 use Rattle.rx5c348a_runs.proofs.Shapes.{mark, shape, noted_deaf, seen_deaf, all_accepted, accepts, first_of, second_of_both, Alike, after_call}
@@ -94,7 +94,7 @@ module _ (mode : HourMode) where
   given_from Nothing s t before acts whole = refl
 
   still_map : (x : Sight) (s t : CoreState) → Acts byte_chart mode x s t → s.map.mode ≡ mode → still s.held x ≡ true → t.map ≡ s.map
-  still_map (Took n) s t acts stands e = ap (λ (u : CoreState). u.map) acts ∙ held_map n s e
+  still_map (Took n) s t acts stands e = ap (λ (u : CoreState). u.map) acts ∙ pulses_map byte_chart n s e
   still_map Held s t acts stands e = ap (λ (u : CoreState). u.map) acts.1
   still_map Released s t acts stands e = never e
   still_map Wrote s t acts stands e = never e

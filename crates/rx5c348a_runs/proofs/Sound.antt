@@ -71,22 +71,3 @@ sound_pulses zero s ok = ok
 sound_pulses (suc n) s ok =
     sound_pulses n (one_pulse byte_chart s)
     (subst Sound (sym (pulse_map s (ltb (s.position + 1) s.second) s.held)) (sound_by s.map (ltb (s.position + 1) s.second) s.held ok))
-
-held_by : (m : MapState) (within held : Bool) → held ≡ true → cond within m (cond held m (advanced byte_chart m)) ≡ m
-held_by m true held e = refl
-held_by m false true e = refl
-held_by m false false e = let z : ◌≡◌ {A = ℕ} 0 1 = cc in absurd (omega arith)
-
-pulse_held : (s : CoreState) (within held : Bool) → (cond within (at_position s (s.position + 1)) (begin_second byte_chart (cond held (waiting s true) (with_map s (advanced byte_chart s.map))))).held ≡ s.held
-pulse_held s true held = refl
-pulse_held s false true = refl
-pulse_held s false false = refl
-
--- pulses move no held map
-pub held_map : (n : ℕ) (s : CoreState) → s.held ≡ true → (many_pulses byte_chart n s).map ≡ s.map
-unfolding many_pulses
-held_map zero s e = refl
-held_map (suc n) s e =
-    held_map n (one_pulse byte_chart s) (pulse_held s (ltb (s.position + 1) s.second) s.held ∙ e)
-    ∙ pulse_map s (ltb (s.position + 1) s.second) s.held
-    ∙ held_by s.map (ltb (s.position + 1) s.second) s.held e

@@ -2,11 +2,11 @@
 use Rattle.std.proofs.Common.{◌≡◌, ℕ, zero, suc, ◌+◌, ◌-◌, ◌/◌, ◌%◌, ◌^◌, ◌<◌, Bool, true, false, cond, ◌&&◌, eqb, ltb, List, [], ◌∷◌, length, get_or, Some, None, Ok, Err, Option, Result, sym, refl, ap, ◌∙◌, subst, ap₂, div-one, add-one, arith, ltb-false, ltb-true, eqb-true}
 use borrow.Author.Tests.{eqb-false}
 use Rattle.refusals.specs.declared.Refusal.{Refusal}
-use Rattle.refusals.specs.declared.Refusal.TheVariants.{NoSuchLevels, TwoPinsChange, AlreadyHeld, NotHeld}
+use Rattle.refusals.specs.declared.Refusal.TheVariants.{NoSuchLevels, TwoPinsChange}
 use Rattle.register_map.specs.declared.hour_mode.HourMode.{HourMode}
-use Rattle.register_map.specs.Chart.{shown_by, put_byte, advanced}
+use Rattle.register_map.specs.Chart.{advanced}
 use Rattle.byte_map.specs.Cells.{byte_chart}
-use Rattle.clock_core.specs.Core.{CoreState, Accepted as Acceptance, hold_core, release_core, released as core_released, set_trim, set_core_mode, restart_second}
+use Rattle.clock_core.specs.Core.{CoreState, set_core_mode}
 use Rattle.serial_transfer.specs.declared.phase.SerialOut.{SerialOut}
 use Rattle.serial_transfer.specs.declared.phase.SerialOut.TheVariants.{Off}
 use Rattle.serial_transfer.specs.declared.phase.Landing.{Landing}
@@ -17,8 +17,9 @@ use Rattle.serial_transfer.specs.declared.phase.Phase.TheVariants.{Idle, Header,
 use Rattle.serial_transfer.specs.Levels.{taken, bit_at, out_number, level_out}
 use Rattle.serial_transfer.specs.Rules.{format_coded, data_at, headed, after_write, after_read}
 use Rattle.serial_transfer.proofs.Shifts.{taken_more}
-use Rattle.rx5c_registers.specs.File.{FileState, with_core, written, masked, hour_mode_in, cell_put, cell_written, alarm_written, control_written, flags_written}
-use Rattle.rx5c_registers.specs.Clock.{at_minute, minute_begun, held, released}
+use Rattle.rx5c_registers.specs.File.{FileState, written, masked, hour_mode_in}
+use Rattle.rx5c_registers.specs.Clock.{held, released}
+use Rattle.rx5c_registers.proofs.Effects.{held_core, released_core_held, core_put_by, written_core, written_held}
 use Rattle.rx5c_registers.proofs.Rows.{lower_register}
 use Rattle.rx5c348a.specs.declared.pins.PinAnswer.{PinAnswer}
 use Rattle.rx5c348a.specs.Part.{PartState}
@@ -26,7 +27,7 @@ use Rattle.rx5c348a.specs.Pins.{answer_in, differ, driven, due_byte, with_landin
 use Rattle.timekeeping.specs.CoreCalls.{one_cell, same_mode}
 use Rattle.timekeeping.specs.Logs.{Wrote, Gave, Nothing}
 use Rattle.timekeeping.proofs.CoreSights.{acts_mode}
-use Rattle.timekeeping.proofs.Keeping.{Acts, held_core}
+use Rattle.timekeeping.proofs.Keeping.{Acts}
 use Rattle.rx5c348a_runs.specs.Onlooker.{Next, AHeader, WriteTo, ReadFrom, Unheard, asked, next_after, Notes, spelt, bit_noted, landed_by}
 use Rattle.rx5c348a_runs.specs.Calls.{levels_answered, pins_noted, pins_sight}
 use Rattle.rx5c348a_runs.proofs.Sound.{Sound, sound_advanced, sound_put}
@@ -100,13 +101,10 @@ module _ (mode : HourMode) (f : FileState) where
   same c k next si so ph t why x y s = record { tracks = t; acts = λ _. refl }
 
   -- CE rises
-  held_is : f.core.held ≡ false → (hold_core f.core).1 ≡ held_core f.core
-  held_is e = ap (λ (b : Bool). (cond {A = Acceptance × CoreState} b (Err AlreadyHeld, f.core) (Ok tt, held_core f.core)).1) e
-
   up : (k : Bool) (next : Next) (si so : List ℕ) (ph : Phase) → Tracks (notes_of false k next si so) (part f false k ph) → (s : ℕ) → Step mode (notes_of false k next si so) (part f false k ph) true k s (Ok (answer_in (part (held f) true k (Header 0 0))), part (held f) true k (Header 0 0))
   unfolding spelt
   up true next si so ph t s =
-      let core = held_is t.held in
+      let core = held_core f t.held in
       record {
         tracks = record {
           ce = refl;
@@ -119,7 +117,7 @@ module _ (mode : HourMode) (f : FileState) where
         acts = (t.held, core);
       }
   up false next si so ph t s =
-      let core = held_is t.held in
+      let core = held_core f t.held in
       record {
         tracks = record {
           ce = refl;
@@ -133,23 +131,13 @@ module _ (mode : HourMode) (f : FileState) where
       }
 
   -- CE falls
-  released_by : (waits minute : Bool) → (cond waits (cond minute (minute_begun (with_core f (release_core byte_chart f.core).1)) (with_core f (release_core byte_chart f.core).1)) (with_core f (release_core byte_chart f.core).1)).core ≡ (release_core byte_chart f.core).1
-  released_by true true = refl
-  released_by true false = refl
-  released_by false minute = refl
-
-  released_is : f.core.held ≡ true → (released f).core ≡ core_released byte_chart f.core
-  released_is e =
-      released_by f.core.waits (at_minute (shown_by byte_chart (release_core byte_chart f.core).1.map))
-      ∙ ap (λ (b : Bool). (cond {A = Acceptance × CoreState} b (Ok tt, core_released byte_chart f.core) (Err NotHeld, f.core)).1) e
-
   sound_released : (waits : Bool) → Sound f.core.map → Sound (cond waits (advanced byte_chart f.core.map) f.core.map)
   sound_released true ok = sound_advanced f.core.map ok
   sound_released false ok = ok
 
   down : (k : Bool) (next : Next) (si so : List ℕ) (ph : Phase) → Tracks (notes_of true k next si so) (part f true k ph) → (s : ℕ) → Step mode (notes_of true k next si so) (part f true k ph) false k s (Ok (answer_in (part (released f) false k Idle)), part (released f) false k Idle)
   down true next si so ph t s =
-      let core = released_is t.held in
+      let core = released_core_held f t.held in
       record {
         tracks = record {
           ce = refl;
@@ -162,7 +150,7 @@ module _ (mode : HourMode) (f : FileState) where
         acts = (t.held, core);
       }
   down false next si so ph t s =
-      let core = released_is t.held in
+      let core = released_core_held f t.held in
       record {
         tracks = record {
           ce = refl;
@@ -322,76 +310,50 @@ module _ (mode : HourMode) (f : FileState) where
   after_read_follows row address true byte out = record { byte = 0; out = out; stands = refl; so_far = (λ _. refl, λ h. absurd (omega arith)) }
   after_read_follows row address false byte out = refl
 
-  -- A byte that lands leaves the core held, its cells sound, and does what he makes of it.
-  alarm_core : (a b c d e : Bool) (v w x y z : FileState) → v.core ≡ f.core → w.core ≡ f.core → x.core ≡ f.core → y.core ≡ f.core → z.core ≡ f.core → (cond a v (cond b w (cond c x (cond d y (cond e z f))))).core ≡ f.core
-  alarm_core true b c d e v w x y z i j k l m = i
-  alarm_core false true c d e v w x y z i j k l m = j
-  alarm_core false false true d e v w x y z i j k l m = k
-  alarm_core false false false true e v w x y z i j k l m = l
-  alarm_core false false false false true v w x y z i j k l m = m
-  alarm_core false false false false false v w x y z i j k l m = refl
-
+  -- A byte that lands leaves the core's cells sound, and does what he makes of it.
   module _ (address byte : ℕ) where
     abbrev m : ℕ
     m = masked address byte
 
-    alarm_is : (alarm_written f address m).core ≡ f.core
-    alarm_is = alarm_core (eqb address 8) (eqb address 9) (eqb address 10) (eqb address 11) (eqb address 12) _ _ _ _ _ refl refl refl refl refl
+    put_sound : (z a b c d : Bool) → Sound f.core.map → Sound (core_put_by f.core address m z a b c d).map
+    put_sound true true b c d ok = sound_put f.core.map address m ok
+    put_sound false true b c d ok = sound_put f.core.map address m ok
+    put_sound z false true c d ok = ok
+    put_sound z false false true d ok = ok
+    put_sound z false false false true ok = record { seven = ok.seven; bytes = ok.bytes }
+    put_sound z false false false false ok = ok
 
-    abbrev put_by : Bool → Bool → Bool → Bool → Bool → FileState
-    put_by a b c d e =
-        cond a (cell_written f address m) (cond b (with_core f (set_trim f.core m)) (cond c (alarm_written f address m) (cond d (control_written f m) (cond e (flags_written f m) f))))
+    written_sound : Sound f.core.map → Sound (written f address byte).core.map
+    written_sound ok =
+        subst (λ (c : CoreState). Sound c.map) (sym (written_core f address byte)) (put_sound (eqb address 0) (ltb address 7) (eqb address 7) (ltb address 14) (eqb address 14) ok)
 
-    cell_held : (zeroth : Bool) → (cond zeroth (restart_second byte_chart (cell_put f.core address m)) (cell_put f.core address m)).held ≡ f.core.held
-    cell_held true = refl
-    cell_held false = refl
-
-    cell_map : (zeroth : Bool) → (cond zeroth (restart_second byte_chart (cell_put f.core address m)) (cell_put f.core address m)).map ≡ put_byte byte_chart f.core.map address m
-    cell_map true = refl
-    cell_map false = refl
-
-    put_held : (a b c d e : Bool) → (put_by a b c d e).core.held ≡ f.core.held
-    put_held true b c d e = cell_held (eqb address 0)
-    put_held false true c d e = refl
-    put_held false false true d e = ap (λ (s : CoreState). s.held) alarm_is
-    put_held false false false true e = refl
-    put_held false false false false true = refl
-    put_held false false false false false = refl
-
-    put_sound : (a b c d e : Bool) → Sound f.core.map → Sound (put_by a b c d e).core.map
-    put_sound true b c d e ok = subst Sound (sym (cell_map (eqb address 0))) (sound_put f.core.map address m ok)
-    put_sound false true c d e ok = ok
-    put_sound false false true d e ok = subst Sound (sym (ap (λ (s : CoreState). s.map) alarm_is)) ok
-    put_sound false false false true e ok = record { seven = ok.seven; bytes = ok.bytes }
-    put_sound false false false false true ok = ok
-    put_sound false false false false false ok = ok
-
-    -- an alarm register, or none: the core stays, whatever he makes of it
-    stays : (t : CoreState) → t ≡ f.core → (d same : Bool) → Acts byte_chart mode (cond d (cond same Nothing Wrote) Nothing) f.core t
-    stays t e true true = λ _. e
-    stays t e true false = tt
-    stays t e false same = λ _. e
-
-    mode_acts : (d : Bool) → eqb address 14 ≡ d → (e : Bool) → Acts byte_chart mode (cond d (cond (same_mode mode (hour_mode_in (masked 14 byte))) Nothing Wrote) Nothing) f.core (cond d (control_written f m) (cond e (flags_written f m) f)).core
-    mode_acts true q e =
-        let is : address ≡ 14 = eqb-true _ _ q in
+    mode_acts : address ≡ 14 → Acts byte_chart mode (cond (same_mode mode (hour_mode_in (masked 14 byte))) Nothing Wrote) f.core (set_core_mode f.core (hour_mode_in m))
+    mode_acts is =
         subst (λ (k : ℕ). Acts byte_chart mode (cond (same_mode mode (hour_mode_in (masked 14 byte))) Nothing Wrote) f.core (set_core_mode f.core (hour_mode_in (masked k byte)))) (sym is)
         (acts_mode byte_chart mode f.core (hour_mode_in (masked 14 byte)) (same_mode mode (hour_mode_in (masked 14 byte))) refl)
-    mode_acts false q true = λ _. refl
-    mode_acts false q false = λ _. refl
 
-    put_acts : (u a b c : Bool) (e : Bool) → ltb address 8 ≡ u → ltb address 7 ≡ a → eqb address 7 ≡ b → Acts byte_chart mode (cond u Wrote (cond (eqb address 14) (cond (same_mode mode (hour_mode_in (masked 14 byte))) Nothing Wrote) Nothing)) f.core (put_by a b c (eqb address 14) e).core
-    put_acts true a b c e p q r = tt
-    put_acts false true b c e p q r =
+    put_acts : (u z a b c d : Bool) → ltb address 8 ≡ u → ltb address 7 ≡ a → eqb address 7 ≡ b → ltb address 14 ≡ c → eqb address 14 ≡ d → Acts byte_chart mode (cond u Wrote (cond d (cond (same_mode mode (hour_mode_in (masked 14 byte))) Nothing Wrote) Nothing)) f.core (core_put_by f.core address m z a b c d)
+    put_acts true z a b c d p q r t x = tt
+    put_acts false z true b c d p q r t x =
         let high = ltb-false _ _ p in
         let low = ltb-true _ _ q in
         absurd (omega arith)
-    put_acts false false true c e p q r =
+    put_acts false z false true c d p q r t x =
         let high = ltb-false _ _ p in
         let is = eqb-true _ _ r in
         absurd (omega arith)
-    put_acts false false false true e p q r = stays (alarm_written f address m).core alarm_is (eqb address 14) (same_mode mode (hour_mode_in (masked 14 byte)))
-    put_acts false false false false e p q r = mode_acts (eqb address 14) refl e
+    put_acts false z false false true true p q r t x =
+        let low = ltb-true _ _ t in
+        let is = eqb-true _ _ x in
+        absurd (omega arith)
+    put_acts false z false false true false p q r t x = λ _. refl
+    put_acts false z false false false true p q r t x = mode_acts (eqb-true _ _ x)
+    put_acts false z false false false false p q r t x = λ _. refl
+
+    written_acts : Acts byte_chart mode (cond (ltb address 8) Wrote (cond (eqb address 14) (cond (same_mode mode (hour_mode_in (masked 14 byte))) Nothing Wrote) Nothing)) f.core (written f address byte).core
+    written_acts =
+        subst (Acts byte_chart mode (cond (ltb address 8) Wrote (cond (eqb address 14) (cond (same_mode mode (hour_mode_in (masked 14 byte))) Nothing Wrote) Nothing)) f.core) (sym (written_core f address byte))
+        (put_acts (ltb address 8) (eqb address 0) (ltb address 7) (eqb address 7) (ltb address 14) (eqb address 14) refl refl refl refl refl)
 
   module _ (si so : List ℕ) (few : length si < 8) (is_held_lem : f.core.held ≡ true) (sound : Sound f.core.map) (s : ℕ) where
     -- one more bit, and not the last
@@ -428,9 +390,9 @@ module _ (mode : HourMode) (f : FileState) where
           record {
             ce = refl;
             sclk = refl;
-            held = put_held address byte (ltb address 7) (eqb address 7) (ltb address 14) (eqb address 14) (eqb address 15) ∙ is_held_lem;
+            held = written_held f address byte ∙ is_held_lem;
             few = omega arith;
-            sound = put_sound address byte (ltb address 7) (eqb address 7) (ltb address 14) (eqb address 14) (eqb address 15) sound;
+            sound = written_sound address byte sound;
             phase = after_write_follows (written f address byte).core.map.cells address burst byte;
           }
       write_by false e =
@@ -438,7 +400,7 @@ module _ (mode : HourMode) (f : FileState) where
 
       write_acts : (last : Bool) → Acts byte_chart mode (cond last (landed_by mode (WriteTo address burst) (spelt (s ∷ si))) Nothing) f.core (with_landing f (landed last).0).core
       unfolding spelt
-      write_acts true = put_acts address byte (ltb address 8) (ltb address 7) (eqb address 7) (ltb address 14) (eqb address 15) refl refl refl
+      write_acts true = written_acts address byte
       write_acts false = λ _. refl
 
       fall_write : FallAt (WriteTo address burst) si so s (Write address burst (length si) (spelt si))

@@ -1,4 +1,5 @@
 pub mod Days
+pub mod Effects
 pub mod Rows
 pub mod Passing
 pub mod Ringing

@@ -10,6 +10,7 @@ use Rattle.rx5c_registers.specs.declared.alarm.AlarmRow.{AlarmRow}
 use Rattle.rx5c_registers.specs.Alarms.{comes_up, with_flag, rung}
 use Rattle.rx5c_registers.specs.File.{FileState, with_core, alarm}
 use Rattle.rx5c_registers.specs.Clock.{at_minute, minute_begun, pulse_taken, pulses_taken, released}
+use Rattle.rx5c_registers.proofs.Effects.{pulse_core, released_core}
 use Rattle.rx5c_registers.specs.Ringing.{MinuteBegins, ItsMinuteBegins, RingsWithin, RowRings, AlarmsRing, RowRingsAtRelease, AlarmsRingAtRelease}
 
 weekday_stays : (w : ℕ) (b : Bool) → w < 7 → cond b (weekday_after w) w < 7
@@ -108,12 +109,6 @@ module _ (f : FileState) where
   abbrev core_step : Bool → CoreState
   core_step within = cond within (at_position f.core (f.core.position + 1)) next
 
-  step_core : (within held minute : Bool) → (step within held minute).core ≡ core_step within
-  step_core true held minute = refl
-  step_core false true minute = refl
-  step_core false false true = refl
-  step_core false false false = refl
-
   step_weekly : (within held minute : Bool) → alarm (step within held minute) 0 ≡ row_after (pulse_looks within held minute) (core_step within) (alarm f 0)
   step_weekly true held minute = refl
   step_weekly false true minute = refl
@@ -143,9 +138,6 @@ module _ (f : FileState) where
   begins_when false false minute h m l =
       begins f.core next (shown_by byte_chart f.core.map) refl (boundary_map f.core.held ∙ ap (λ (k : Bool). cond k f.core.map (advanced byte_chart f.core.map)) h) (m ∙ l)
 
-  pulse_core : (pulse_taken f).core ≡ one_pulse byte_chart f.core
-  pulse_core = step_core (ltb (f.core.position + 1) f.core.second) f.core.held (at_minute (shown_by byte_chart next.map))
-
   abbrev looks : Bool
   looks = pulse_looks (ltb (f.core.position + 1) f.core.second) f.core.held (at_minute (shown_by byte_chart next.map))
 
@@ -162,12 +154,6 @@ module _ (f : FileState) where
 
   pulse_daily : RowRingsAtRelease f.core (one_pulse byte_chart f.core) (alarm f 1) (alarm (pulse_taken f) 1)
   pulse_daily = pulse_row (alarm f 1) _ (step_daily (ltb (f.core.position + 1) f.core.second) f.core.held (at_minute (shown_by byte_chart next.map)))
-
--- pulses are pulses of the core
-pub taken_core : (n : ℕ) (f : FileState) → (pulses_taken n f).core ≡ many_pulses byte_chart n f.core
-unfolding pulses_taken many_pulses
-taken_core zero f = refl
-taken_core (suc n) f = taken_core n (pulse_taken f) ∙ ap (many_pulses byte_chart n) (pulse_core f)
 
 -- rows that differ in their flag alone have the same minute
 same_minute : (a b : AlarmRow) (s t : CoreState) → with_flag a false ≡ with_flag b false → ItsMinuteBegins a s t → ItsMinuteBegins b s t
@@ -237,11 +223,6 @@ module _ (f : FileState) (is_held_lem : f.core.held ≡ true) where
   gone waits minute =
       cond waits (cond minute (minute_begun (with_core f let_go)) (with_core f let_go)) (with_core f let_go)
 
-  gone_core : (waits minute : Bool) → (gone waits minute).core ≡ let_go
-  gone_core true true = refl
-  gone_core true false = refl
-  gone_core false minute = refl
-
   gone_weekly : (waits minute : Bool) → alarm (gone waits minute) 0 ≡ row_after (waits && minute) let_go (alarm f 0)
   gone_weekly true true = refl
   gone_weekly true false = refl
@@ -275,7 +256,7 @@ module _ (f : FileState) (is_held_lem : f.core.held ≡ true) where
 
   pub alarms_ring_at_release : AlarmsRingAtRelease f (released f)
   alarms_ring_at_release =
-      let core : (released f).core ≡ let_go = gone_core f.core.waits minute_after in
+      let core : (released f).core ≡ let_go = released_core f in
       record {
         weekly =
             subst (λ (t : CoreState). RowRingsAtRelease f.core t (alarm f 0) (alarm (released f) 0)) (sym core)

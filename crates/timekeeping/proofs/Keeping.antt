@@ -6,8 +6,9 @@ use Rattle.std.proofs.lemmas.Bool.Decides.{nat_tests}
 use Rattle.register_map.specs.declared.hour_mode.HourMode.{HourMode}
 use Rattle.register_map.specs.declared.shown.Shown.{Shown}
 use Rattle.register_map.specs.Chart.{Chart, Showable, Lawful, MapState, map_state, shown_by, second_of, advanced, advanced_from}
-use Rattle.clock_core.specs.Core.{CoreState, with_map, waiting, at_position, begin_second, cross_boundary, one_pulse, many_pulses, counted_value, released as released_core}
+use Rattle.clock_core.specs.Core.{CoreState, cross_boundary, one_pulse, many_pulses, counted_value, released as released_core}
 use Rattle.clock_core.specs.Seconds.{second_pulses, trimmed_length}
+use Rattle.clock_core.proofs.Effects.{pulse_held, pulses_held}
 use Rattle.clock_core.proofs.Runs.{pulse_within, pulse_crosses}
 use Rattle.timekeeping.specs.Logs.{Sight, Took, Held, Released, Wrote, Gave, Nothing, pulses_by, held_by, is_write}
 use Rattle.timekeeping.specs.Seconds.{seconds_past, length_of_second, first_seconds}
@@ -40,20 +41,6 @@ pub record Keeps (c : Chart) (trim : ℕ) (mode : HourMode) (p : Shown) (total s
   pub applied : n ≡ cond s.waits (suc k) k
   pub clear : s.held ≡ false → s.waits ≡ false
   pub early : s.waits ≡ true → s.position < since
-
-pulse_held_by : (c : Chart) (s : CoreState) (within held : Bool) → (cond within (at_position s (s.position + 1)) (begin_second c (cond held (waiting s true) (with_map s (advanced c s.map))))).held ≡ s.held
-pulse_held_by c s true held = refl
-pulse_held_by c s false true = refl
-pulse_held_by c s false false = refl
-
--- a pulse holds nothing and releases nothing
-pub pulse_held : (c : Chart) (s : CoreState) → (one_pulse c s).held ≡ s.held
-pulse_held c s = pulse_held_by c s (ltb (s.position + 1) s.second) s.held
-
-pub pulses_held : (c : Chart) (n : ℕ) (s : CoreState) → (many_pulses c n s).held ≡ s.held
-unfolding many_pulses
-pulses_held c zero s = refl
-pulses_held c (suc n) s = pulses_held c n (one_pulse c s) ∙ pulse_held c s
 
 -- a core, held
 abbrev pub held_core : CoreState → CoreState

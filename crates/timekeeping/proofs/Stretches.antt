@@ -1,22 +1,11 @@
 -- Held stretches: the map stands.
-use Rattle.std.proofs.Common.{◌≡◌, ℕ, zero, suc, ◌+◌, Bool, true, false, cond, ltb, refl, ap, ◌∙◌, subst, arith}
+use Rattle.std.proofs.Common.{◌≡◌, ℕ, true, false, ap, ◌∙◌, subst, arith}
 use Rattle.register_map.specs.declared.hour_mode.HourMode.{HourMode}
-use Rattle.register_map.specs.Chart.{Chart, advanced}
-use Rattle.clock_core.specs.Core.{CoreState, with_map, waiting, at_position, begin_second, one_pulse, many_pulses}
+use Rattle.register_map.specs.Chart.{Chart}
+use Rattle.clock_core.specs.Core.{CoreState}
+use Rattle.clock_core.proofs.Effects.{pulses_held, pulses_map}
 use Rattle.timekeeping.specs.Logs.{Sight, Took, Held, Released, Wrote, Gave, Nothing, is_release, is_write}
-use Rattle.timekeeping.proofs.Keeping.{Acts, pulse_held, pulses_held}
-
-pulse_map_by : (c : Chart) (s : CoreState) (within held : Bool) → held ≡ true → (cond within (at_position s (s.position + 1)) (begin_second c (cond held (waiting s true) (with_map s (advanced c s.map))))).map ≡ s.map
-pulse_map_by c s true held e = refl
-pulse_map_by c s false true e = refl
-pulse_map_by c s false false e = let z : ◌≡◌ {A = ℕ} 0 1 = cc in absurd (omega arith)
-
--- held, pulses leave the map alone
-pulses_map : (c : Chart) (n : ℕ) (s : CoreState) → s.held ≡ true → (many_pulses c n s).map ≡ s.map
-unfolding many_pulses
-pulses_map c zero s e = refl
-pulses_map c (suc n) s e =
-    pulses_map c n (one_pulse c s) (pulse_held c s ∙ e) ∙ pulse_map_by c s (ltb (s.position + 1) s.second) s.held e
+use Rattle.timekeeping.proofs.Keeping.{Acts}
 
 -- a core that is held over the same map
 abbrev pub Stays : CoreState → CoreState → Type 0
