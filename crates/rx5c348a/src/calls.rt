@@ -44,7 +44,7 @@ impl Rx5c348a {
         }
     }
 
-    #[tactic(auto, unfolding(crate::specs::Part::pulse_part))]
+    #[tactic(auto, using(rx5c_registers::proofs::Effects::given_held), unfolding(crate::specs::Part::pulse_part))]
     pub fn pulses(&mut self, count: u64) -> Result<(), Refusal>
         ensures { (result, seen self.new) ≡ pulse_part (seen self.old) count }
     {

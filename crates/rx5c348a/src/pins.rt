@@ -57,7 +57,7 @@ impl Rx5c348a {
     pub fn awaits_header(&self) -> bool
         ensures { result ≡ awaits_header (seen self.now) }
     {
-        self.ce && self.transfer.awaits_header() && !self.sclk
+        self.transfer.awaits_header() && !self.sclk
     }
 
     // Holds the calendar; a header follows.
@@ -91,6 +91,7 @@ impl Rx5c348a {
     }
 
     // A bit is taken from SI; the eighth of a written byte lands it.
+    #[tactic(auto, using(rx5c_registers::proofs::Effects::written_held))]
     fn sclk_falls(&mut self, si: u8)
         ensures { seen self.new ≡ sclk_fallen (seen self.old) si }
     {

@@ -2,3 +2,4 @@ pub mod Shifts
 pub mod Clocks
 pub mod Wholes
 pub mod Turns
+pub mod UnderWay

@@ -1,5 +1,5 @@
--- Where a transfer stands, as two numbers that every transfer bounds: the bits of the byte under way, and the address.
-use Rattle.std.specs.Prelude.{ℕ}
+-- Where a transfer stands: two numbers that every transfer bounds, the bits of the byte under way and the address, and whether one is under way.
+use Rattle.std.specs.Prelude.{ℕ, Bool, true, false}
 use Rattle.serial_transfer.specs.declared.phase.Phase.{Phase}
 use Rattle.serial_transfer.specs.declared.phase.Phase.TheVariants.{Idle, Header, Write, Read, Deaf}
 
@@ -18,3 +18,11 @@ address_of (Header bits gathered) = 0
 address_of (Write address burst bits gathered) = address
 address_of (Read address burst bits byte out) = address
 address_of Deaf = 0
+
+-- whether a transfer is under way: a header, data, or what a part is deaf to
+abbrev pub under_way : Phase → Bool
+under_way Idle = false
+under_way (Header bits gathered) = true
+under_way (Write address burst bits gathered) = true
+under_way (Read address burst bits byte out) = true
+under_way Deaf = true

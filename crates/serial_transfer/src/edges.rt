@@ -1,6 +1,7 @@
 // The edges of CE and SCLK.
 ghost use Rattle.std.specs.Prelude.{◌≡◌, ◌<◌, IfSome};
 ghost use Rattle.serial_transfer.specs.declared.phase.Phase.TheVariants.{Idle};
+ghost use Rattle.serial_transfer.specs.Phase.{under_way};
 ghost use Rattle.serial_transfer.specs.Rules.{fresh_header, out_in, awaits, due_in, risen, fallen, header_taken};
 
 use crate::bits::{bit_of, taken_in};
@@ -39,6 +40,13 @@ impl Transfer {
             Phase::Read { out, .. } => out,
             _ => SerialOut::Off,
         }
+    }
+
+    // CE is high: a header or data, or what the part is deaf to.
+    pub fn is_under_way(&self) -> bool
+        ensures { result ≡ under_way self.now.phase }
+    {
+        !matches!(self.phase, Phase::Idle)
     }
 
     // CE is high, and no bit of a header is in yet.
