@@ -3,7 +3,7 @@ ghost use Rattle.std.specs.Prelude.{◌≡◌, ◌<◌, ◌≤◌};
 ghost use Rattle.clock_core.specs.Seconds.{trimmed_length, second_pulses};
 
 // Pulses of a second that is not trimmed.
-pub(crate) const PLAIN_SECOND: u32 = 32_768;
+pub const PLAIN_SECOND: u32 = 32_768;
 
 // The pulses of a trimmed second, for a trim byte below 128.
 fn trimmed_second(trim: u8) -> u32

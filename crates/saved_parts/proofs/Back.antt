@@ -1,5 +1,5 @@
 -- What is saved is read back.
-use Rattle.std.proofs.Common.{◌≡◌, ℕ, ◌<◌, ◌≤◌, Bool, true, false, ◌||◌, cond, List, [], ◌∷◌, length, get_or, Some, None, refl, ap, ◌∙◌, ap₂, arith}
+use Rattle.std.proofs.Common.{◌≡◌, ℕ, ◌<◌, ◌≤◌, Bool, true, false, not, ◌&&◌, ◌||◌, cond, eqb, List, [], ◌∷◌, length, get_or, Some, None, sym, refl, ap, ◌∙◌, ap₂, arith}
 use Rattle.std.proofs.Math.Dec.{ltb}
 use Rattle.std.proofs.lemmas.Bool.{lt-leb, le-ltb}
 use Rattle.register_map.specs.declared.hour_mode.HourMode.{HourMode}
@@ -15,7 +15,7 @@ use Rattle.serial_transfer.specs.declared.phase.SerialOut.TheVariants.{Low, High
 use Rattle.serial_transfer.specs.declared.phase.Phase.{Phase}
 use Rattle.serial_transfer.specs.declared.phase.Phase.TheVariants.{Idle, Header, Write, Read, Deaf}
 use Rattle.serial_transfer.specs.Levels.{out_number}
-use Rattle.serial_transfer.specs.Phase.{bits_through, address_of}
+use Rattle.serial_transfer.specs.Phase.{bits_through, address_of, under_way}
 use Rattle.rx5c_registers.specs.declared.alarm.AlarmRow.{AlarmRow}
 use Rattle.rx5c_registers.specs.declared.file.RegisterFile.{RegisterFile}
 use Rattle.rx5c_registers.specs.Alarms.{blank_row}
@@ -23,13 +23,14 @@ use Rattle.rx5c_registers.specs.File.{FileState, file_seen, alarm}
 use Rattle.saved_parts.specs.declared.file.SavedFile.{SavedFile}
 use Rattle.rx5c348a.specs.declared.part.Rx5c348a.{Rx5c348a}
 use Rattle.rx5c348a.specs.Part.{seen}
+use Rattle.rx5c348a.specs.Pins.{differ}
 use Rattle.saved_parts.specs.Flags.{flag_number, flag_numbered}
 use Rattle.saved_parts.specs.Running.{hold_number, hold_numbered, mode_read, out_of_range, core_of, core_saved, core_restored}
 use Rattle.saved_parts.specs.declared.running.SavedCore.{SavedCore}
 use Rattle.saved_parts.specs.Alarms.{alarm_saved, alarm_restored}
 use Rattle.saved_parts.specs.Transfers.{out_numbered, read_read, phase_read, transfer_saved, transfer_restored}
 use Rattle.saved_parts.specs.Files.{file_saved, file_of, file_restored}
-use Rattle.saved_parts.specs.Part348.{saved, restored, part_of}
+use Rattle.saved_parts.specs.Part348.{saved, restored, part_of, unfit}
 use Rattle.msm62x42.specs.declared.part.Msm62x42.{Msm62x42}
 use Rattle.msm62x42.specs.Part.{seen as seen_62}
 use Rattle.saved_parts.specs.Part62.{saved as saved_62, restored as restored_62}
@@ -120,13 +121,24 @@ file_back f =
     (alarm_back (alarm (file_seen f) 0)) (alarm_back (alarm (file_seen f) 1)) (flag_back f.oscillator_stopped) refl refl
     (two_rows f.alarms (blank_row 0) f.two_rows)
 
+-- what a part keeps of CE, its transfer and its hold
+alike : (a b : Bool) → a ≡ b → differ a b ≡ false
+alike false b e = sym e
+alike true b e = ap not (sym e)
+
+fit : (p : Rx5c348a) → unfit (file_seen p.registers) p.ce p.transfer.phase ≡ false
+fit p =
+    ap₂ ◌||◌ (alike (under_way p.transfer.phase) p.ce p.under_way_while_selected) (alike (is_held p.registers.core.hold) p.ce p.held_while_selected)
+
 -- A part that was saved is read back.
 pub part_back : (p : Rx5c348a) → restored (saved (seen p)) ≡ Some (seen p)
 part_back p =
     ap₂ (λ f c. part_of f c (flag_numbered (flag_number p.sclk)) (transfer_restored (transfer_saved p.transfer.phase))) (file_back p.registers) (flag_back p.ce)
     ∙ ap₂ (part_of (Some (file_seen p.registers)) (Some p.ce)) (flag_back p.sclk) (transfer_back p.transfer.phase p.transfer.byte_unfinished p.transfer.four_bits)
+    ∙ ap (λ (b : Bool). cond b None (Some (seen p))) (fit p)
 
 pub digits_back : (p : Msm62x42) → restored_62 (saved_62 (seen_62 p)) ≡ Some (seen_62 p)
 digits_back p =
     let c = p.core in
-    core_back c.position c.second_length c.trim c.hold c.map.mode c.map.cells.digits c.trim_in_range c.within_second c.shortest c.longest
+    ap (λ (b : Bool). cond b (core_restored (core_saved (seen_62 p)) c.map.cells.digits) None) (ap₂ (λ (t l : ℕ). eqb t 0 && eqb l 32768) p.untrimmed p.plain_second)
+    ∙ core_back c.position c.second_length c.trim c.hold c.map.mode c.map.cells.digits c.trim_in_range c.within_second c.shortest c.longest

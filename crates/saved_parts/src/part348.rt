@@ -50,6 +50,10 @@ impl Saved348 {
         let ce = flag_numbered(self.ce)?;
         let sclk = flag_numbered(self.sclk)?;
         let transfer = self.transfer.restore()?;
+        // CE high is what a transfer runs under, and what holds the core.
+        if transfer.is_under_way() != ce || registers.core.is_held() != ce {
+            return None;
+        }
         Some(Rx5c348a {
             registers,
             ce,

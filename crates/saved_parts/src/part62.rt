@@ -2,9 +2,10 @@
 ghost use Rattle.std.specs.Prelude.{◌≡◌, Some, IfSome};
 ghost use Rattle.std.specs.Option.{option_map};
 ghost use Rattle.msm62x42.specs.Part.{seen};
-ghost use Rattle.saved_parts.specs.Part62.{saved, restored};
+ghost use Rattle.saved_parts.specs.Part62.{saved, is_plain, restored};
 
 use crate::running::SavedCore;
+use clock_core::seconds::PLAIN_SECOND;
 use digit_map::cells::DigitCells;
 use msm62x42::part::Msm62x42;
 
@@ -20,6 +21,13 @@ pub struct Saved62 {
     // up to a whole number of words, so that no byte of a record is left open: 0
     pub spare: u8,
     pub spare_pair: u16,
+}
+
+// This part has no trim, and so only seconds of 32,768 pulses.
+fn is_plain(core: SavedCore) -> bool
+    ensures { result ≡ is_plain core }
+{
+    core.trim == 0 && core.second_length == PLAIN_SECOND
 }
 
 impl Saved62 {
@@ -43,7 +51,7 @@ impl Saved62 {
         ensures value { option_map seen result ≡ restored self.now }
         ensures same { IfSome result (λ part. saved (seen part) ≡ self.now) }
     {
-        if self.mark != MARK || self.spare != 0 || self.spare_pair != 0 {
+        if self.mark != MARK || self.spare != 0 || self.spare_pair != 0 || !is_plain(self.core) {
             return None;
         }
         let digits = self.cells;
