@@ -67,6 +67,15 @@ static void no_call_takes_this_record(void) {
     CHECK(buffer[0] == 7);
 }
 
+/* Records of parts, but for one byte of each. */
+static void no_part_has(clock348 one, size_t place, unsigned char byte, clock62 other, size_t other_place, unsigned char other_byte) {
+    serial.part = one;
+    ((unsigned char *)&serial.part)[place] = byte;
+    bus.part = other;
+    ((unsigned char *)&bus.part)[other_place] = other_byte;
+    no_call_takes_this_record();
+}
+
 static void records_of_no_part(void) {
     memset(&serial.part, 0, sizeof serial.part);
     memset(&bus.part, 0, sizeof bus.part);
@@ -82,6 +91,10 @@ static void records_of_no_part(void) {
     memcpy(&serial.part, &other, sizeof other);
     memcpy(&bus.part, &one, sizeof bus.part);
     no_call_takes_this_record();
+    /* CE up with no transfer, and a trim */
+    no_part_has(one, 36, 1, other, 15, 7);
+    /* held with CE down, and another second than 32,768 */
+    no_part_has(one, 12, 1, other, 8, 2);
 }
 
 static void looks(void) {
