@@ -17,7 +17,7 @@ abbrev all_kept : ℕ → ℕ → Bool
 all_kept century zero = true
 all_kept century (suc n) = kept century n && all_kept century n
 
-month_bits : (century n : ℕ) → century < 2 → n < 32 → bit_and (128 * century + n) 0x9F ≡ 128 * century + n
+pub month_bits : (century n : ℕ) → century < 2 → n < 32 → bit_and (128 * century + n) 0x9F ≡ 128 * century + n
 unfolding kept
 month_bits zero n h k =
     (Decides-below_and (kept 0) (λ n. bit_and (128 * 0 + n) 0x9F ≡ 128 * 0 + n) (all_kept 0) (λ n. Decides-eqb (bit_and (128 * 0 + n) 0x9F) (128 * 0 + n)) refl (λ _. refl) 32).0 refl n k

@@ -1,5 +1,8 @@
 // Seven packed decimal cells, one by one.
-ghost use Rattle.std.specs.Prelude.{◌≡◌, ◌<◌, length, slice_index, refl};
+ghost use Rattle.std.specs.Prelude.{◌≡◌, ◌%◌, ◌<◌, IsTrue, length, slice_index, refl};
+ghost use Rattle.std.specs.Option.{option_map};
+ghost use Rattle.calendar.specs.Views.{fields_read};
+ghost use Rattle.civil_map.specs.Masks.{all_masked, masked_cells};
 ghost use Rattle.byte_map.specs.Cells.{used_bits, number_cell, hour_cell, month_cell, time_in, date_in, row as written_row, row_read};
 ghost use Rattle.byte_map.specs.RowLaws.{spells, row_spelt, years_fit};
 
@@ -9,6 +12,7 @@ use calendar::hour_face::HourFace;
 use calendar::reading::Reading;
 use calendar::time_of_day::TimeOfDay;
 use civil_map::cells::FieldCells;
+use civil_map::masks::all_masked;
 use register_map::hour_mode::HourMode;
 
 const SECONDS: usize = 0;
@@ -56,15 +60,56 @@ fn hour_cell(mode: HourMode, hour: u8) -> u8
 
 fn month_cell(year: u8, month: u8) -> u8
     requires { (year < 200) × (month < 13) }
-    ensures { result ≡ month_cell year month }
+    ensures value { result ≡ month_cell year month }
+    ensures within { result % 128 < 32 }
 {
     CENTURY * (year / 100) + number_cell(month)
+}
+
+fn day_cell(date: Date) -> u8
+    ensures value { result ≡ number_cell date.day }
+    ensures within { result < 64 }
+{
+    number_cell(date.day)
+}
+
+// The row that a reading is written in.
+#[tactic(auto, unfolding(crate::specs::Cells::row))]
+fn written(mode: HourMode, reading: Reading) -> [u8; 7]
+    requires { reading.date.year < 200 }
+    ensures { result ≡ written_row mode (fields_read reading) }
+{
+    let date = reading.date;
+    let time = reading.time;
+    [
+        number_cell(time.second),
+        number_cell(time.minute),
+        hour_cell(mode, time.hour),
+        reading.weekday,
+        number_cell(date.day),
+        month_cell(date.year, date.month),
+        number_cell(date.year % 100),
+    ]
 }
 
 #[derive(Clone, Copy, PartialEq, Eq, Debug)]
 pub struct ByteCells {
     pub bytes: [u8; 7],
     ghost seven: { length bytes ≡ 7 },
+    ghost no_unused_bit: { IsTrue (all_masked used_bits bytes) },
+}
+
+impl ByteCells {
+    // These bytes as cells, where none has an unused bit.
+    pub fn from_bytes(bytes: [u8; 7]) -> Option<ByteCells>
+        ensures { option_map (λ c. c.bytes) result ≡ masked_cells used_bits bytes }
+    {
+        if all_masked(&USED_BITS, &bytes) {
+            Some(ByteCells { bytes })
+        } else {
+            None
+        }
+    }
 }
 
 impl FieldCells for ByteCells {
@@ -109,18 +154,8 @@ impl FieldCells for ByteCells {
     }
 
     fn row(mode: HourMode, reading: Reading) -> ByteCells {
-        let date = reading.date;
-        let time = reading.time;
         ByteCells {
-            bytes: [
-                number_cell(time.second),
-                number_cell(time.minute),
-                hour_cell(mode, time.hour),
-                reading.weekday,
-                number_cell(date.day),
-                month_cell(date.year, date.month),
-                number_cell(date.year % 100),
-            ],
+            bytes: written(mode, reading),
         }
     }
 
@@ -128,6 +163,7 @@ impl FieldCells for ByteCells {
         self.bytes[cell]
     }
 
+    #[tactic(auto, using(crate::proofs::Keeping::put_kept))]
     fn put(&mut self, cell: usize, byte: u8) {
         self.bytes[cell] = byte & USED_BITS[cell];
     }
@@ -159,24 +195,29 @@ impl FieldCells for ByteCells {
         self.bytes[WEEKDAY]
     }
 
+    #[tactic(auto, using(crate::proofs::Keeping::second_row))]
     fn put_second(&mut self, second: u8) {
         self.bytes[SECONDS] = number_cell(second);
     }
 
+    #[tactic(auto, using(crate::proofs::Keeping::minute_row))]
     fn put_minute(&mut self, minute: u8) {
         self.bytes[MINUTES] = number_cell(minute);
     }
 
+    #[tactic(auto, using(crate::proofs::Keeping::hour_row))]
     fn put_hour(&mut self, mode: HourMode, hour: u8) {
         self.bytes[HOURS] = hour_cell(mode, hour);
     }
 
+    #[tactic(auto, using(crate::proofs::Keeping::weekday_row))]
     fn put_weekday(&mut self, weekday: u8) {
         self.bytes[WEEKDAY] = weekday;
     }
 
+    #[tactic(auto, using(crate::proofs::Keeping::date_kept, crate::proofs::Keeping::date_row))]
     fn put_date(&mut self, date: Date) {
-        self.bytes[DAY] = number_cell(date.day);
+        self.bytes[DAY] = day_cell(date);
         self.bytes[MONTH] = month_cell(date.year, date.month);
         self.bytes[YEAR] = number_cell(date.year % 100);
     }

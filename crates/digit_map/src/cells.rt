@@ -1,6 +1,10 @@
 // Thirteen cells of one digit each.
-ghost use Rattle.std.specs.Prelude.{◌≡◌, ◌<◌, length, slice_index, refl};
+ghost use Rattle.std.specs.Prelude.{◌≡◌, ◌+◌, ◌<◌, IsTrue, length, bit_and, slice_index, slice_set, refl};
+ghost use Rattle.std.specs.Option.{option_map};
 ghost use Rattle.calendar.specs.Spelling.{time_spelt, date_spelt};
+ghost use Rattle.calendar.specs.Digits.{digits_of, hour_digits};
+ghost use Rattle.calendar.specs.Views.{fields_read};
+ghost use Rattle.civil_map.specs.Masks.{all_masked, masked_cells};
 ghost use Rattle.digit_map.specs.Cells.{used_bits, digits_in, digits_put, row as written_row, row_read};
 ghost use Rattle.digit_map.specs.RowLaws.{spells, row_spelt, years_fit};
 
@@ -10,6 +14,7 @@ use calendar::hour_face::HourFace;
 use calendar::reading::Reading;
 use calendar::time_of_day::TimeOfDay;
 use civil_map::cells::FieldCells;
+use civil_map::masks::all_masked;
 use register_map::hour_mode::HourMode;
 
 // The cell of each number's units; its tens follow.
@@ -42,13 +47,70 @@ fn face(mode: HourMode) -> HourFace
     }
 }
 
+fn hour_digits(mode: HourMode, hour: u8) -> Digits
+    requires { hour < 24 }
+    ensures value { result ≡ hour_digits mode 4 hour }
+    ensures units { result.units < 16 }
+    ensures tens { result.tens < 8 }
+{
+    face(mode).digits(hour)
+}
+
+fn day_digits(date: Date) -> Digits
+    ensures value { result ≡ digits_of date.day }
+    ensures units { result.units < 16 }
+    ensures tens { result.tens < 4 }
+{
+    Digits::of(date.day)
+}
+
+// The row that a reading is written in.
+#[tactic(auto, unfolding(crate::specs::Cells::row))]
+fn written(mode: HourMode, reading: Reading) -> [u8; 13]
+    ensures { result ≡ written_row mode (fields_read reading) }
+{
+    let second = Digits::of(reading.time.second);
+    let minute = Digits::of(reading.time.minute);
+    let hour = face(mode).digits(reading.time.hour);
+    let day = Digits::of(reading.date.day);
+    let month = Digits::of(reading.date.month);
+    let year = Digits::of(reading.date.year);
+    [
+        second.units,
+        second.tens,
+        minute.units,
+        minute.tens,
+        hour.units,
+        hour.tens,
+        day.units,
+        day.tens,
+        month.units,
+        month.tens,
+        year.units,
+        year.tens,
+        reading.weekday,
+    ]
+}
+
 #[derive(Clone, Copy, PartialEq, Eq, Debug)]
 pub struct DigitCells {
     pub digits: [u8; 13],
     ghost thirteen: { length digits ≡ 13 },
+    ghost no_unused_bit: { IsTrue (all_masked used_bits digits) },
 }
 
 impl DigitCells {
+    // These digits as cells, where none has an unused bit.
+    pub fn from_digits(digits: [u8; 13]) -> Option<DigitCells>
+        ensures { option_map (λ c. c.digits) result ≡ masked_cells used_bits digits }
+    {
+        if all_masked(&USED_BITS, &digits) {
+            Some(DigitCells { digits })
+        } else {
+            None
+        }
+    }
+
     // The two digits that begin at a cell.
     fn pair(&self, cell: usize) -> Digits
         requires { cell < 12 }
@@ -60,12 +122,22 @@ impl DigitCells {
         }
     }
 
+    fn set(&mut self, cell: usize, digit: u8)
+        requires room { cell < 13 }
+        requires used { bit_and digit (slice_index used_bits cell) ≡ digit }
+        ensures { self.new.digits ≡ slice_set self.old.digits cell digit }
+    {
+        self.digits[cell] = digit;
+    }
+
     fn put_pair(&mut self, cell: usize, pair: Digits)
-        requires { cell < 12 }
+        requires room { cell < 12 }
+        requires units { bit_and pair.units (slice_index used_bits cell) ≡ pair.units }
+        requires tens { bit_and pair.tens (slice_index used_bits (cell + 1)) ≡ pair.tens }
         ensures { self.new.digits ≡ digits_put self.old.digits cell pair }
     {
-        self.digits[cell] = pair.units;
-        self.digits[cell + 1] = pair.tens;
+        self.set(cell, pair.units);
+        self.set(cell + 1, pair.tens);
     }
 }
 
@@ -111,28 +183,8 @@ impl FieldCells for DigitCells {
     }
 
     fn row(mode: HourMode, reading: Reading) -> DigitCells {
-        let second = Digits::of(reading.time.second);
-        let minute = Digits::of(reading.time.minute);
-        let hour = face(mode).digits(reading.time.hour);
-        let day = Digits::of(reading.date.day);
-        let month = Digits::of(reading.date.month);
-        let year = Digits::of(reading.date.year);
         DigitCells {
-            digits: [
-                second.units,
-                second.tens,
-                minute.units,
-                minute.tens,
-                hour.units,
-                hour.tens,
-                day.units,
-                day.tens,
-                month.units,
-                month.tens,
-                year.units,
-                year.tens,
-                reading.weekday,
-            ],
+            digits: written(mode, reading),
         }
     }
 
@@ -140,8 +192,9 @@ impl FieldCells for DigitCells {
         self.digits[cell]
     }
 
+    #[tactic(auto, using(civil_map::proofs::Masking::masked_twice))]
     fn put(&mut self, cell: usize, byte: u8) {
-        self.digits[cell] = byte & USED_BITS[cell];
+        self.set(cell, byte & USED_BITS[cell]);
     }
 
     fn time(&self, mode: HourMode) -> Option<TimeOfDay> {
@@ -162,24 +215,29 @@ impl FieldCells for DigitCells {
         self.digits[WEEKDAY]
     }
 
+    #[tactic(auto, using(crate::proofs::Keeping::second_row))]
     fn put_second(&mut self, second: u8) {
         self.put_pair(SECONDS, Digits::of(second));
     }
 
+    #[tactic(auto, using(crate::proofs::Keeping::minute_row))]
     fn put_minute(&mut self, minute: u8) {
         self.put_pair(MINUTES, Digits::of(minute));
     }
 
+    #[tactic(auto, using(crate::proofs::Keeping::hour_row))]
     fn put_hour(&mut self, mode: HourMode, hour: u8) {
-        self.put_pair(HOURS, face(mode).digits(hour));
+        self.put_pair(HOURS, hour_digits(mode, hour));
     }
 
+    #[tactic(auto, using(crate::proofs::Keeping::weekday_row))]
     fn put_weekday(&mut self, weekday: u8) {
-        self.digits[WEEKDAY] = weekday;
+        self.set(WEEKDAY, weekday);
     }
 
+    #[tactic(auto, using(crate::proofs::Keeping::date_row))]
     fn put_date(&mut self, date: Date) {
-        self.put_pair(DAY, Digits::of(date.day));
+        self.put_pair(DAY, day_digits(date));
         self.put_pair(MONTH, Digits::of(date.month));
         self.put_pair(YEAR, Digits::of(date.year));
     }

@@ -1,7 +1,6 @@
-use Rattle.byte_map.specs.Cells.{row}
+use Rattle.byte_map.proofs.Keeping.{row_kept}
 use Rattle.byte_map.proofs.cells.ByteCellsFieldCells.row.Goals as goal
 
-pub returns : goal.returns
-unfolding row
-returns c =
-    rw (c.number_cell.ensures, c.number_cell-2.ensures, c.hour_cell.ensures, c.number_cell-3.ensures, c.month_cell.ensures, c.number_cell-4.ensures)
+pub invariant_of-result-clause-no_unused_bit : goal.invariant_of-result-clause-no_unused_bit
+invariant_of-result-clause-no_unused_bit c =
+    row_kept c.written.result c.args.mode c.args.reading c.written.ensures c.requires

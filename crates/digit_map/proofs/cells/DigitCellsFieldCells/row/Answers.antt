@@ -1,10 +1,6 @@
-use Rattle.std.proofs.Common.{ap, ◌∙◌}
-use Rattle.calendar.specs.Digits.{hour_digits}
-use Rattle.digit_map.specs.Cells.{row}
+use Rattle.digit_map.proofs.Keeping.{row_kept}
 use Rattle.digit_map.proofs.cells.DigitCellsFieldCells.row.Goals as goal
 
-pub returns : goal.returns
-unfolding row
-returns c =
-    let hour = c.digits-hour.ensures ∙ ap (λ f. hour_digits f.mode f.mark c.args.reading.time.hour) c.face.ensures in
-    rw (c.of-second.ensures, c.of-minute.ensures, hour, c.of-day.ensures, c.of-month.ensures, c.of-year.ensures)
+pub invariant_of-result-clause-no_unused_bit : goal.invariant_of-result-clause-no_unused_bit
+invariant_of-result-clause-no_unused_bit c =
+    row_kept c.written.result c.args.mode c.args.reading c.written.ensures c.requires
