@@ -90,8 +90,11 @@ module _ (f : FileState) (w d : AlarmRow) (seven : length f.core.map.cells ≡ 7
   cell_stands k mask less e =
       ap (λ (x : ℕ). set cells k x ++ upper_registers rows) (twice mask e byte small) ∙ set_front cells (upper_registers rows) k (bit_and byte mask) (omega arith)
 
-  trim_stands : bit_and byte 0x7F % 128 ≡ bit_and byte 0x7F
-  trim_stands = let low = and_le_r byte 0x7F in omega arith
+  seven_stand : bit_and byte 0x7F % 128 ≡ bit_and byte 0x7F
+  seven_stand = let low = and_le_r byte 0x7F in omega arith
+
+  six_stand : bit_and byte 0x3F % 64 ≡ bit_and byte 0x3F
+  six_stand = let low = and_le_r byte 0x3F in omega arith
 
   replaced : (address : ℕ) → address < 14 → registers (written rows address byte) ≡ set (registers rows) address (masked address byte)
   unfolding every
@@ -103,12 +106,17 @@ module _ (f : FileState) (w d : AlarmRow) (seven : length f.core.map.cells ≡ 7
   replaced (suc (suc (suc (suc (suc zero))))) h = cell_stands 5 0x9F (omega arith) refl
   replaced (suc (suc (suc (suc (suc (suc zero)))))) h = cell_stands 6 0xFF (omega arith) refl
   replaced (suc (suc (suc (suc (suc (suc (suc zero))))))) h =
-      ap (λ (x : ℕ). cells ++ set (upper_registers rows) 0 x) trim_stands ∙ set_back cells (upper_registers rows) 0 _ seven
-  replaced (suc (suc (suc (suc (suc (suc (suc (suc zero)))))))) h = set_back cells (upper_registers rows) 1 _ seven
-  replaced (suc (suc (suc (suc (suc (suc (suc (suc (suc zero))))))))) h = set_back cells (upper_registers rows) 2 _ seven
-  replaced (suc (suc (suc (suc (suc (suc (suc (suc (suc (suc zero)))))))))) h = set_back cells (upper_registers rows) 3 _ seven
-  replaced (suc (suc (suc (suc (suc (suc (suc (suc (suc (suc (suc zero))))))))))) h = set_back cells (upper_registers rows) 4 _ seven
-  replaced (suc (suc (suc (suc (suc (suc (suc (suc (suc (suc (suc (suc zero)))))))))))) h = set_back cells (upper_registers rows) 5 _ seven
+      ap (λ (x : ℕ). cells ++ set (upper_registers rows) 0 x) seven_stand ∙ set_back cells (upper_registers rows) 0 _ seven
+  replaced (suc (suc (suc (suc (suc (suc (suc (suc zero)))))))) h =
+      ap (λ (x : ℕ). cells ++ set (upper_registers rows) 1 x) seven_stand ∙ set_back cells (upper_registers rows) 1 _ seven
+  replaced (suc (suc (suc (suc (suc (suc (suc (suc (suc zero))))))))) h =
+      ap (λ (x : ℕ). cells ++ set (upper_registers rows) 2 x) six_stand ∙ set_back cells (upper_registers rows) 2 _ seven
+  replaced (suc (suc (suc (suc (suc (suc (suc (suc (suc (suc zero)))))))))) h =
+      ap (λ (x : ℕ). cells ++ set (upper_registers rows) 3 x) seven_stand ∙ set_back cells (upper_registers rows) 3 _ seven
+  replaced (suc (suc (suc (suc (suc (suc (suc (suc (suc (suc (suc zero))))))))))) h =
+      ap (λ (x : ℕ). cells ++ set (upper_registers rows) 4 x) seven_stand ∙ set_back cells (upper_registers rows) 4 _ seven
+  replaced (suc (suc (suc (suc (suc (suc (suc (suc (suc (suc (suc (suc zero)))))))))))) h =
+      ap (λ (x : ℕ). cells ++ set (upper_registers rows) 5 x) six_stand ∙ set_back cells (upper_registers rows) 5 _ seven
   replaced (suc (suc (suc (suc (suc (suc (suc (suc (suc (suc (suc (suc (suc zero))))))))))))) h =
       ap (λ (x : ℕ). cells ++ set (upper_registers rows) 6 x) (sym (and_zero_r byte)) ∙ set_back cells (upper_registers rows) 6 _ seven
   replaced (suc (suc (suc (suc (suc (suc (suc (suc (suc (suc (suc (suc (suc (suc k)))))))))))))) h = absurd (omega arith)

@@ -1,5 +1,5 @@
 -- Alarm rows: when a row rings, and what is done to one.
-use Rattle.std.specs.Prelude.{ℕ, ◌/◌, ◌%◌, ◌^◌, Bool, false, ◌&&◌, ◌||◌, ◌==◌}
+use Rattle.std.specs.Prelude.{ℕ, ◌/◌, ◌%◌, ◌^◌, Bool, false, ◌&&◌, ◌||◌, ◌==◌, nat_lt}
 use Rattle.rx5c_registers.specs.declared.alarm.AlarmRow.{AlarmRow}
 
 -- a weekday's bit in a row's days
@@ -27,17 +27,18 @@ enabled_to to row =
 abbrev pub flag_written : Bool → AlarmRow → AlarmRow
 flag_written bit row = with_flag row (row.flag && bit)
 
+-- A row's registers have seven bits, six and seven; the others are cleared.
 abbrev pub with_minute : ℕ → AlarmRow → AlarmRow
 with_minute byte row =
-    record { minute = byte; hour = row.hour; days = row.days; enabled = row.enabled; flag = row.flag }
+    record { minute = byte % 128; hour = row.hour; days = row.days; enabled = row.enabled; flag = row.flag }
 
 abbrev pub with_hour : ℕ → AlarmRow → AlarmRow
 with_hour byte row =
-    record { minute = row.minute; hour = byte; days = row.days; enabled = row.enabled; flag = row.flag }
+    record { minute = row.minute; hour = byte % 64; days = row.days; enabled = row.enabled; flag = row.flag }
 
 abbrev pub with_days : ℕ → AlarmRow → AlarmRow
 with_days byte row =
-    record { minute = row.minute; hour = row.hour; days = byte; enabled = row.enabled; flag = row.flag }
+    record { minute = row.minute; hour = row.hour; days = byte % 128; enabled = row.enabled; flag = row.flag }
 
 -- a row that is set for nothing, on these days
 abbrev pub blank_row : ℕ → AlarmRow
@@ -46,3 +47,7 @@ blank_row days = record { minute = 0; hour = 0; days = days; enabled = false; fl
 -- all seven days of the week
 abbrev pub every_day : ℕ
 every_day = 0x7F
+
+-- no register of the row has an unused bit
+abbrev pub row_masked : AlarmRow → Bool
+row_masked row = nat_lt row.minute 128 && (nat_lt row.hour 64 && nat_lt row.days 128)

@@ -56,21 +56,22 @@ impl AlarmRow {
         }
     }
 
+    // Bits above a register's highest are cleared.
     pub fn set_minute(&mut self, byte: u8)
         ensures { self.new ≡ with_minute byte self.old }
     {
-        self.minute = byte;
+        self.minute = byte % 128;
     }
 
     pub fn set_hour(&mut self, byte: u8)
         ensures { self.new ≡ with_hour byte self.old }
     {
-        self.hour = byte;
+        self.hour = byte % 64;
     }
 
     pub fn set_days(&mut self, byte: u8)
         ensures { self.new ≡ with_days byte self.old }
     {
-        self.days = byte;
+        self.days = byte % 128;
     }
 }

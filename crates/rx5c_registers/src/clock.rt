@@ -1,30 +1,32 @@
 // How time passes: pulses, hold and release, and the alarms that ring.
-ghost use Rattle.std.specs.Prelude.{◌≡◌, true, OnOk};
+ghost use Rattle.std.specs.Prelude.{◌≡◌, true, map, OnOk};
+ghost use Rattle.rx5c_registers.specs.Alarms.{rung};
 ghost use Rattle.rx5c_registers.specs.File.{file_seen};
-ghost use Rattle.rx5c_registers.specs.Clock.{after_advance, crossed, run_to_boundary, pulses_taken, give_pulses, held, released, rows_rung, minute_begun};
+ghost use Rattle.rx5c_registers.specs.Clock.{after_advance, crossed, run_to_boundary, pulses_taken, give_pulses, held, released, minute_begun};
 ghost use Rattle.rx5c_registers.specs.Ringing.{AlarmsRing, AlarmsRingAtRelease};
 
+use crate::alarm::AlarmRow;
 use crate::file::RegisterFile;
 use clock_core::boundary::MOST_PULSES;
 use refusals::Refusal;
 use register_map::map::RegisterMap;
 
-impl RegisterFile {
-    // Each row looks at the minute, hour and weekday.
-    fn ring_rows(&mut self, minute: u8, hour: u8, weekday: u8)
-        ensures { file_seen self.new ≡ rows_rung (file_seen self.old) minute hour weekday }
-    {
-        for row in &mut self.alarms {
-            row.ring(minute, hour, weekday);
-        }
+// Each row looks at the minute, hour and weekday.
+fn ring_rows(rows: &mut [AlarmRow; 2], minute: u8, hour: u8, weekday: u8)
+    ensures { rows.new ≡ map (rung minute hour weekday) rows.old }
+{
+    for row in rows {
+        row.ring(minute, hour, weekday);
     }
+}
 
+impl RegisterFile {
     // The cells show a minute that has just begun.
     fn begin_minute(&mut self)
         ensures { file_seen self.new ≡ minute_begun (file_seen self.old) }
     {
         let [_, minute, hour, weekday, ..] = self.core.map.cells.bytes;
-        self.ring_rows(minute, hour, weekday);
+        ring_rows(&mut self.alarms, minute, hour, weekday);
     }
 
     // After an advance. A map that shows none has no seconds, and rings nothing.

@@ -1,7 +1,9 @@
 // What the sixteen registers read.
-ghost use Rattle.std.specs.Prelude.{◌≡◌, ◌-◌, ◌<◌, ◌≤◌, slice_index};
+ghost use Rattle.std.specs.Prelude.{◌≡◌, ◌-◌, ◌<◌, ◌≤◌, bit_or, slice_index, slice_index_or};
+ghost use Rattle.rx5c_registers.specs.Alarms.{blank_row};
 ghost use Rattle.rx5c_registers.specs.File.{file_seen, registers, upper_registers, control_byte, flag_byte, bit_if, interrupts, look_at};
 
+use crate::alarm::AlarmRow;
 use crate::file::RegisterFile;
 use clock_core::cells::copy_front;
 use refusals::Refusal;
@@ -27,6 +29,16 @@ pub(crate) const WAFG: u8 = 0x02;
 
 pub(crate) const DAFG: u8 = 0x01;
 
+// WAFG and DAFG.
+fn row_flags(rows: [AlarmRow; 2]) -> u8
+    ensures { let weekly = slice_index_or rows 0 (blank_row 0) in
+        let daily = slice_index_or rows 1 (blank_row 0) in
+        result ≡ bit_or (bit_if weekly.flag 0x02) (bit_if daily.flag 0x01) }
+{
+    let [weekly, daily] = rows;
+    u8::from(weekly.flag) * WAFG | u8::from(daily.flag) * DAFG
+}
+
 impl RegisterFile {
     // Register Eh.
     fn control(&self) -> u8
@@ -41,9 +53,7 @@ impl RegisterFile {
     fn flags(&self) -> u8
         ensures { result ≡ flag_byte (file_seen self.now) }
     {
-        let [weekly, daily] = self.alarms;
-        let alarms = u8::from(weekly.flag) * WAFG | u8::from(daily.flag) * DAFG;
-        alarms | (u8::from(self.oscillator_stopped) * XSTP | self.stored_flags)
+        row_flags(self.alarms) | (u8::from(self.oscillator_stopped) * XSTP | self.stored_flags)
     }
 
     // Registers 7 to Fh.

@@ -68,6 +68,7 @@ impl RegisterFile {
     }
 
     // Eh: enables, hour mode, and bits that are only stored.
+    #[tactic(auto, using(civil_map::proofs::Masking::masked_twice))]
     fn write_control(&mut self, byte: u8)
         ensures { file_seen self.new ≡ control_written (file_seen self.old) byte }
     {
@@ -78,6 +79,7 @@ impl RegisterFile {
     }
 
     // Fh: flags that 0 clears, and bits that are only stored.
+    #[tactic(auto, using(civil_map::proofs::Masking::masked_twice))]
     fn write_flags(&mut self, byte: u8)
         ensures { file_seen self.new ≡ flags_written (file_seen self.old) byte }
     {
