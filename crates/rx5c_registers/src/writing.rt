@@ -14,10 +14,10 @@ const USED_BITS: [u8; 16] = [
 ];
 
 // CLEN2 and CT2 to CT0.
-const STORED_CONTROL: u8 = 0x17;
+pub const STORED_CONTROL: u8 = 0x17;
 
 // VDSL, SCRATCH1, CLEN1 and CTFG.
-const STORED_FLAGS: u8 = 0xAC;
+pub const STORED_FLAGS: u8 = 0xAC;
 
 fn has(byte: u8, mask: u8) -> bool
     ensures { result ≡ has byte mask }

@@ -1,5 +1,7 @@
 -- A 62X42 as it is saved, and read back. All its state is that of its core.
 use Rattle.std.specs.Prelude.{ℕ, Bool, cond, ◌&&◌, None, Option, ◌==◌}
+use Rattle.civil_map.specs.Masks.{all_masked}
+use Rattle.digit_map.specs.Cells.{used_bits}
 use Rattle.clock_core.specs.Core.{CoreState}
 use Rattle.saved_parts.specs.declared.part62.Saved62.{Saved62}
 use Rattle.saved_parts.specs.declared.running.SavedCore.{SavedCore}
@@ -19,4 +21,5 @@ is_plain r = r.trim == 0 && r.second_length == 32768
 -- the part that a record is the saved state of, where it is one
 abbrev pub restored : Saved62 → Option CoreState
 restored r =
-    cond (r.mark == mark && (r.spare == 0 && (r.spare_pair == 0 && is_plain r.core))) (core_restored r.core r.cells) None
+    cond (r.mark == mark && (r.spare == 0 && (r.spare_pair == 0 && is_plain r.core)))
+    (cond (all_masked used_bits r.cells) (core_restored r.core r.cells) None) None

@@ -1,5 +1,6 @@
 // An alarm row.
-ghost use Rattle.std.specs.Prelude.{◌≡◌, IfSome};
+ghost use Rattle.std.specs.Prelude.{◌≡◌, IsTrue, IfSome};
+ghost use Rattle.rx5c_registers.specs.Alarms.{row_masked};
 ghost use Rattle.saved_parts.specs.Alarms.{alarm_saved, alarm_restored};
 
 use crate::flags::flag_numbered;
@@ -30,8 +31,12 @@ impl SavedAlarm {
 
     pub(crate) fn restore(self) -> Option<AlarmRow>
         ensures value { result ≡ alarm_restored self }
+        ensures masked { IfSome result (λ row. IsTrue (row_masked row)) }
         ensures same { IfSome result (λ row. alarm_saved row ≡ self) }
     {
+        if self.minute >= 128 || self.hour >= 64 || self.days >= 128 {
+            return None;
+        }
         let enabled = flag_numbered(self.enabled)?;
         let flag = flag_numbered(self.flag)?;
         Some(AlarmRow {

@@ -8,7 +8,9 @@ use crate::alarm::SavedAlarm;
 use crate::flags::flag_numbered;
 use crate::running::SavedCore;
 use byte_map::cells::ByteCells;
+use rx5c_registers::alarm::EVERY_DAY;
 use rx5c_registers::file::RegisterFile;
+use rx5c_registers::writing::{STORED_CONTROL, STORED_FLAGS};
 
 #[repr(C)]
 #[derive(Clone, Copy, PartialEq, Eq, Debug)]
@@ -42,10 +44,15 @@ impl SavedFile {
         ensures value { option_map file_seen result ≡ file_restored self }
         ensures same { IfSome result (λ file. file_saved (file_seen file) ≡ self) }
     {
-        let bytes = self.cells;
-        let core = self.core.restore(ByteCells { bytes })?;
+        let core = self.core.restore(ByteCells::from_bytes(self.cells)?)?;
         let weekly = self.weekly.restore()?;
         let daily = self.daily.restore()?;
+        if daily.days != EVERY_DAY
+            || self.stored_control & STORED_CONTROL != self.stored_control
+            || self.stored_flags & STORED_FLAGS != self.stored_flags
+        {
+            return None;
+        }
         let oscillator_stopped = flag_numbered(self.oscillator_stopped)?;
         Some(RegisterFile {
             core,

@@ -54,8 +54,7 @@ impl Saved62 {
         if self.mark != MARK || self.spare != 0 || self.spare_pair != 0 || !is_plain(self.core) {
             return None;
         }
-        let digits = self.cells;
-        let core = self.core.restore(DigitCells { digits })?;
+        let core = self.core.restore(DigitCells::from_digits(self.cells)?)?;
         Some(Msm62x42 { core })
     }
 }
