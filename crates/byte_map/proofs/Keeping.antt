@@ -6,34 +6,25 @@ use Rattle.calendar.specs.Dates.{CivilDate}
 use Rattle.calendar.specs.declared.reading.Reading.{Reading}
 use Rattle.calendar.specs.Fields.{Fields}
 use Rattle.calendar.specs.Views.{fields_read}
-use Rattle.calendar.proofs.CellLaws.{low_bits}
 use Rattle.civil_map.specs.Changes.{with_second, with_minute, with_hour, with_weekday, with_date}
 use Rattle.civil_map.specs.Masks.{all_masked}
-use Rattle.civil_map.proofs.Masking.{masked_twice, all_masked_set, all_masked_row}
+use Rattle.civil_map.proofs.Masking.{all_masked_set, all_masked_row}
 use Rattle.byte_map.specs.Cells.{used_bits, number_cell, hour_cell, month_cell, row}
 use Rattle.byte_map.specs.MaskLaws.{month_bits}
 use Rattle.byte_map.specs.RowLaws.{spells}
 
--- a masked byte, in any cell
-pub put_kept : (cells : List ℕ) (k byte : ℕ) → IsTrue (all_masked used_bits cells) → IsTrue (all_masked used_bits (set cells k (bit_and byte (get_or used_bits k 0))))
-put_kept cells k byte kept =
-    all_masked_set used_bits cells k (bit_and byte (get_or used_bits k 0)) kept (masked_twice byte (get_or used_bits k 0))
+-- a cell that its mask does not change
+pub set_kept : (cells : List ℕ) (k byte : ℕ) → IsTrue (all_masked used_bits cells) → bit_and byte (get_or used_bits k 0) ≡ byte → IsTrue (all_masked used_bits (set cells k byte))
+set_kept = all_masked_set used_bits
 
--- the month cell has a century bit, and five bits of a month
-month_kept : (x : ℕ) → x < 256 → x % 128 < 32 → bit_and x 0x9F ≡ x
+-- a century bit and five bits of a month
+pub month_kept : (x : ℕ) → x < 256 → x % 128 < 32 → bit_and x 0x9F ≡ x
 month_kept x h k =
     let e : 128 * (x / 128) + x % 128 ≡ x = omega arith in
     rw e at (month_bits (x / 128) (x % 128) (omega arith) k)
 
 pub row_kept : (cells : List ℕ) (m : HourMode) (r : Reading) → cells ≡ row m (fields_read r) → r.date.year < 200 → IsTrue (all_masked used_bits cells)
 row_kept cells m r e h = subst (λ cells. IsTrue (all_masked used_bits cells)) (sym e) (all_masked_row spells m r h)
-
--- the date's three cells
-pub date_kept : (cells : List ℕ) (a b c : ℕ) → IsTrue (all_masked used_bits cells) → a < 64 → b < 256 → b % 128 < 32 → c < 256 → IsTrue (all_masked used_bits (set (set (set cells 4 a) 5 b) 6 c))
-date_kept cells a b c kept ha hb hm hc =
-    all_masked_set used_bits (set (set cells 4 a) 5 b) 6 c
-    (all_masked_set used_bits (set cells 4 a) 5 b (all_masked_set used_bits cells 4 a kept (low_bits a 6 ha)) (month_kept b hb hm))
-    (low_bits c 8 hc)
 
 module _ (cells : List ℕ) (x : ℕ) (m : HourMode) (f : Fields) (spelt : cells ≡ row m f) where
   pub second_row : (second : ℕ) → x ≡ number_cell second → set cells 0 x ≡ row m (with_second second f)

@@ -1,5 +1,5 @@
 // Seven packed decimal cells, one by one.
-ghost use Rattle.std.specs.Prelude.{◌≡◌, ◌%◌, ◌<◌, IsTrue, length, slice_index, refl};
+ghost use Rattle.std.specs.Prelude.{◌≡◌, ◌<◌, IsTrue, length, bit_and, slice_index, slice_set, refl};
 ghost use Rattle.std.specs.Option.{option_map};
 ghost use Rattle.calendar.specs.Views.{fields_read};
 ghost use Rattle.civil_map.specs.Masks.{all_masked, masked_cells};
@@ -58,10 +58,11 @@ fn hour_cell(mode: HourMode, hour: u8) -> u8
     .pack()
 }
 
+#[tactic(auto, using(crate::proofs::Keeping::month_kept))]
 fn month_cell(year: u8, month: u8) -> u8
     requires { (year < 200) × (month < 13) }
     ensures value { result ≡ month_cell year month }
-    ensures within { result % 128 < 32 }
+    ensures used { bit_and result (slice_index used_bits 5) ≡ result }
 {
     CENTURY * (year / 100) + number_cell(month)
 }
@@ -86,7 +87,7 @@ fn written(mode: HourMode, reading: Reading) -> [u8; 7]
         number_cell(time.minute),
         hour_cell(mode, time.hour),
         reading.weekday,
-        number_cell(date.day),
+        day_cell(date),
         month_cell(date.year, date.month),
         number_cell(date.year % 100),
     ]
@@ -109,6 +110,14 @@ impl ByteCells {
         } else {
             None
         }
+    }
+
+    fn set(&mut self, at: usize, byte: u8)
+        requires room { at < 7 }
+        requires used { bit_and byte (slice_index used_bits at) ≡ byte }
+        ensures { self.new.bytes ≡ slice_set self.old.bytes at byte }
+    {
+        self.bytes[at] = byte;
     }
 }
 
@@ -163,9 +172,9 @@ impl FieldCells for ByteCells {
         self.bytes[cell]
     }
 
-    #[tactic(auto, using(crate::proofs::Keeping::put_kept))]
+    #[tactic(auto, using(civil_map::proofs::Masking::masked_twice))]
     fn put(&mut self, cell: usize, byte: u8) {
-        self.bytes[cell] = byte & USED_BITS[cell];
+        self.set(cell, byte & USED_BITS[cell]);
     }
 
     fn time(&self, mode: HourMode) -> Option<TimeOfDay> {
@@ -197,28 +206,28 @@ impl FieldCells for ByteCells {
 
     #[tactic(auto, using(crate::proofs::Keeping::second_row))]
     fn put_second(&mut self, second: u8) {
-        self.bytes[SECONDS] = number_cell(second);
+        self.set(SECONDS, number_cell(second));
     }
 
     #[tactic(auto, using(crate::proofs::Keeping::minute_row))]
     fn put_minute(&mut self, minute: u8) {
-        self.bytes[MINUTES] = number_cell(minute);
+        self.set(MINUTES, number_cell(minute));
     }
 
     #[tactic(auto, using(crate::proofs::Keeping::hour_row))]
     fn put_hour(&mut self, mode: HourMode, hour: u8) {
-        self.bytes[HOURS] = hour_cell(mode, hour);
+        self.set(HOURS, hour_cell(mode, hour));
     }
 
     #[tactic(auto, using(crate::proofs::Keeping::weekday_row))]
     fn put_weekday(&mut self, weekday: u8) {
-        self.bytes[WEEKDAY] = weekday;
+        self.set(WEEKDAY, weekday);
     }
 
-    #[tactic(auto, using(crate::proofs::Keeping::date_kept, crate::proofs::Keeping::date_row))]
+    #[tactic(auto, using(crate::proofs::Keeping::date_row))]
     fn put_date(&mut self, date: Date) {
-        self.bytes[DAY] = day_cell(date);
-        self.bytes[MONTH] = month_cell(date.year, date.month);
-        self.bytes[YEAR] = number_cell(date.year % 100);
+        self.set(DAY, day_cell(date));
+        self.set(MONTH, month_cell(date.year, date.month));
+        self.set(YEAR, number_cell(date.year % 100));
     }
 }

@@ -112,22 +112,22 @@ impl DigitCells {
     }
 
     // The two digits that begin at a cell.
-    fn pair(&self, cell: usize) -> Digits
-        requires { cell < 12 }
-        ensures { result ≡ digits_in self.now.digits cell }
+    fn pair(&self, units: usize) -> Digits
+        requires { units < 12 }
+        ensures { result ≡ digits_in self.now.digits units }
     {
         Digits {
-            tens: self.digits[cell + 1],
-            units: self.digits[cell],
+            tens: self.digits[units + 1],
+            units: self.digits[units],
         }
     }
 
-    fn set(&mut self, cell: usize, digit: u8)
-        requires room { cell < 13 }
-        requires used { bit_and digit (slice_index used_bits cell) ≡ digit }
-        ensures { self.new.digits ≡ slice_set self.old.digits cell digit }
+    fn set(&mut self, at: usize, digit: u8)
+        requires room { at < 13 }
+        requires used { bit_and digit (slice_index used_bits at) ≡ digit }
+        ensures { self.new.digits ≡ slice_set self.old.digits at digit }
     {
-        self.digits[cell] = digit;
+        self.digits[at] = digit;
     }
 
     fn put_pair(&mut self, cell: usize, pair: Digits)

@@ -5,6 +5,11 @@ use byte_map::cells::ByteCells;
 use byte_map::map::ByteMap;
 use register_map::hour_mode::HourMode;
 use register_map::map::RegisterMap;
+use std::process::Abort;
+
+fn cells_of(rt: &impl Abort, bytes: [u8; 7]) -> ByteCells {
+    ByteCells::from_bytes(bytes).expect(rt, "an unused bit")
+}
 
 // The hours cell of each hour in 12-hour mode.
 const TWELVE_HOUR_CELLS: [u8; 24] = [
@@ -60,9 +65,7 @@ const NEXT_DATES: [[u8; 6]; 25] = [
 fn midnight_brings_the_next_date(rt: HostRuntime) {
     for [day, month, year, next_day, next_month, next_year] in NEXT_DATES {
         let mut map = ByteMap {
-            cells: ByteCells {
-                bytes: [0x59, 0x59, 0x23, 6, day, month, year],
-            },
+            cells: cells_of(&rt, [0x59, 0x59, 0x23, 6, day, month, year]),
             mode: HourMode::TwentyFour,
         };
         map.advance();
@@ -95,9 +98,7 @@ fn a_second_carries(rt: HostRuntime) {
         next_weekday,
     ] in NEXT_TIMES {
         let mut map = ByteMap {
-            cells: ByteCells {
-                bytes: [second, minute, hour, weekday, 0x01, 0x01, 0x00],
-            },
+            cells: cells_of(&rt, [second, minute, hour, weekday, 0x01, 0x01, 0x00]),
             mode: HourMode::Twelve,
         };
         map.advance();
@@ -141,11 +142,11 @@ const NO_HOUR_OF_12: [u8; 6] = [0x00, 0x20, 0x13, 0x33, 0x0A, 0x2F];
 #[test]
 fn no_code_shows_none(rt: HostRuntime) {
     for cells in NO_CODE_IN_24_HOURS {
-        stands_still(&rt, ByteCells { bytes: cells }, HourMode::TwentyFour);
+        stands_still(&rt, cells_of(&rt, cells), HourMode::TwentyFour);
     }
     for hours in NO_HOUR_OF_12 {
         let bytes = [0, 0, hours, 0, 0x01, 0x01, 0x00];
-        stands_still(&rt, ByteCells { bytes }, HourMode::Twelve);
+        stands_still(&rt, cells_of(&rt, bytes), HourMode::Twelve);
     }
     assert!(rt; ByteMap::fresh().shown() == None);
 }

@@ -5,6 +5,11 @@ use digit_map::cells::DigitCells;
 use digit_map::map::DigitMap;
 use register_map::hour_mode::HourMode;
 use register_map::map::RegisterMap;
+use std::process::Abort;
+
+fn cells_of(rt: &impl Abort, digits: [u8; 13]) -> DigitCells {
+    DigitCells::from_digits(digits).expect(rt, "an unused bit")
+}
 
 // The units and tens of each hour in 12-hour mode.
 const TWELVE_HOUR_DIGITS: [[u8; 2]; 24] = [
@@ -77,9 +82,7 @@ fn midnight_brings_the_next_date(rt: HostRuntime) {
         next_yy,
     ] in NEXT_DATES {
         let mut map = DigitMap {
-            cells: DigitCells {
-                digits: [9, 5, 9, 5, 3, 2, d, dd, m, mm, y, yy, 6],
-            },
+            cells: cells_of(&rt, [9, 5, 9, 5, 3, 2, d, dd, m, mm, y, yy, 6]),
             mode: HourMode::TwentyFour,
         };
         map.advance();
@@ -112,11 +115,11 @@ const NO_HOUR_OF_12: [[u8; 2]; 6] = [[0, 0], [0, 4], [3, 1], [3, 5], [10, 0], [2
 #[test]
 fn no_code_shows_none(rt: HostRuntime) {
     for cells in NO_CODE_IN_24_HOURS {
-        stands_still(&rt, DigitCells { digits: cells }, HourMode::TwentyFour);
+        stands_still(&rt, cells_of(&rt, cells), HourMode::TwentyFour);
     }
     for [units, tens] in NO_HOUR_OF_12 {
         let digits = [0, 0, 0, 0, units, tens, 1, 0, 1, 0, 0, 0, 0];
-        stands_still(&rt, DigitCells { digits }, HourMode::Twelve);
+        stands_still(&rt, cells_of(&rt, digits), HourMode::Twelve);
     }
     assert!(rt; DigitMap::fresh().shown() == None);
 }
