@@ -2,11 +2,13 @@
 use Rattle.std.proofs.Common.{◌≡◌, ℕ, zero, suc, Bool, List, [], ◌∷◌, ◌++◌, length, Ok, Err, Result, sym, refl, ap, ◌∙◌}
 use Rattle.refusals.specs.declared.Refusal.{Refusal}
 use Rattle.clock_core.specs.Core.{Accepted}
+use Rattle.serial_transfer.specs.declared.phase.Format.TheVariants.{SingleWrite, BurstWrite, SingleRead, BurstRead}
+use Rattle.serial_transfer.specs.Rules.{code_of}
 use Rattle.rx5c348a.specs.Part.{PartState}
 use Rattle.rx5c348a.specs.Pins.{pins_part}
 use Rattle.host_wires.specs.Record.{Wired}
 use Rattle.host_wires.specs.Shifting.{bit_in, bits_in, byte_in, bit_out, levels_out, byte_out, bytes_in, bytes_out, low_levels}
-use Rattle.host_sessions.specs.Sessions.{closing, opening, header_for, read_after, reading, write_after, writing, burst_read_after, burst_reading, burst_write_after, burst_writing, single_read_format, single_write_format, burst_read_format, burst_write_format}
+use Rattle.host_sessions.specs.Sessions.{closing, opening, header_for, read_after, reading, write_after, writing, burst_read_after, burst_reading, burst_write_after, burst_writing}
 use Rattle.host_sessions.specs.Driven.{all_driven, bits_levels, byte_levels, bytes_levels, clock_levels, read_levels, transfer_levels, levels_of_close, levels_of_open, levels_of_read, levels_of_write, levels_of_burst_read, levels_of_burst_write}
 
 -- levels in two parts
@@ -64,7 +66,7 @@ none_driven p = refl
 
 pub read_driven : (address : ℕ) (w v : Wired) (answer : Result ℕ Refusal) → ◌≡◌ {A = Result ℕ Refusal × Wired} (answer, v) (reading address w) → v.part ≡ all_driven (levels_of_read address w.part) w.part
 read_driven address w v answer e =
-    ap (λ (s : Result ℕ Refusal × Wired). s.1.part) e ∙ after (header_for w.part address single_read_format)
+    ap (λ (s : Result ℕ Refusal × Wired). s.1.part) e ∙ after (header_for w.part address (code_of SingleRead))
   where
     after : (h : Result ℕ Refusal) → (read_after h w).1.part ≡ all_driven (transfer_levels h (clock_levels 8)) w.part
     after (Err why) = none_driven w.part
@@ -72,7 +74,7 @@ read_driven address w v answer e =
 
 pub write_driven : (address byte : ℕ) (w v : Wired) (answer : Accepted) → ◌≡◌ {A = Accepted × Wired} (answer, v) (writing address byte w) → v.part ≡ all_driven (levels_of_write address byte w.part) w.part
 write_driven address byte w v answer e =
-    ap (λ (s : Accepted × Wired). s.1.part) e ∙ after (header_for w.part address single_write_format)
+    ap (λ (s : Accepted × Wired). s.1.part) e ∙ after (header_for w.part address (code_of SingleWrite))
   where
     after : (h : Result ℕ Refusal) → (write_after h byte w).1.part ≡ all_driven (transfer_levels h (byte_levels byte)) w.part
     after (Err why) = none_driven w.part
@@ -80,7 +82,7 @@ write_driven address byte w v answer e =
 
 pub burst_read_driven : (address : ℕ) (buffer : List ℕ) (w v : Wired) (moved : ℕ) (filled : List ℕ) → ◌≡◌ {A = ℕ × List ℕ × Wired} (moved, filled, v) (burst_reading address buffer w) → v.part ≡ all_driven (levels_of_burst_read address (length buffer) w.part) w.part
 burst_read_driven address buffer w v moved filled e =
-    ap (λ (s : ℕ × List ℕ × Wired). s.2.part) e ∙ after (header_for w.part address burst_read_format)
+    ap (λ (s : ℕ × List ℕ × Wired). s.2.part) e ∙ after (header_for w.part address (code_of BurstRead))
   where
     after : (h : Result ℕ Refusal) → (burst_read_after h buffer w).2.part ≡ all_driven (transfer_levels h (read_levels (length buffer))) w.part
     after (Err why) = none_driven w.part
@@ -89,7 +91,7 @@ burst_read_driven address buffer w v moved filled e =
 
 pub burst_write_driven : (address : ℕ) (bytes : List ℕ) (w v : Wired) (moved : ℕ) → ◌≡◌ {A = ℕ × Wired} (moved, v) (burst_writing address bytes w) → v.part ≡ all_driven (levels_of_burst_write address bytes w.part) w.part
 burst_write_driven address bytes w v moved e =
-    ap (λ (s : ℕ × Wired). s.1.part) e ∙ after (header_for w.part address burst_write_format)
+    ap (λ (s : ℕ × Wired). s.1.part) e ∙ after (header_for w.part address (code_of BurstWrite))
   where
     after : (h : Result ℕ Refusal) → (burst_write_after h bytes w).1.part ≡ all_driven (transfer_levels h (bytes_levels bytes)) w.part
     after (Err why) = none_driven w.part

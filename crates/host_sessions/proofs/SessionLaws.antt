@@ -15,7 +15,7 @@ use Rattle.rx5c_registers.proofs.Standing.{written_stands}
 use Rattle.rx5c348a.specs.Part.{PartState}
 use Rattle.rx5c348a.specs.Pins.{awaits_header, with_landing, pins_part}
 use Rattle.host_wires.specs.declared.record.PinRecord.{PinRecord}
-use Rattle.host_wires.specs.Record.{Wired, wired}
+use Rattle.host_wires.specs.Record.{Wired, wired, pin_record}
 use Rattle.host_wires.specs.Shifting.{byte_in, byte_out, bytes_in, bytes_out}
 use Rattle.host_wires.specs.Laws.{ready_in, byte_at, written_in_turn, registers_in_turn}
 use Rattle.serial_transfer.proofs.Wholes.{halves}
@@ -110,7 +110,7 @@ reads address w v answer e =
         let all : ◌≡◌ {A = Result ℕ Refusal × Wired} (answer, v) (Err why, ended w) = e ∙ ap (λ (r : Result ℕ Refusal). read_after r w) (is ∙ also) in
         (ap (λ (s : Result ℕ Refusal × Wired). s.0) all, ap (λ (s : Result ℕ Refusal × Wired). s.1.part) all)
 
-    served : (f : FileState) → address ≤ 15 → ◌≡◌ {A = Result ℕ Refusal × Wired} (reading address (wired w.pins (awaiting f))) (Ok (byte_at f address), ended (wired (record { ce = true; sclk = false; si = false }) (awaiting f)))
+    served : (f : FileState) → address ≤ 15 → ◌≡◌ {A = Result ℕ Refusal × Wired} (reading address (wired w.pins (awaiting f))) (Ok (byte_at f address), ended (wired (pin_record true false false) (awaiting f)))
     served f few =
         let u : Wired = wired w.pins (awaiting f) in
         let header : ℕ = 16 * address + 12 in

@@ -1,11 +1,13 @@
 -- Each call of a session as the levels that it drives, one after another.
 use Rattle.std.specs.Prelude.{ℕ, zero, suc, Bool, true, false, List, [], ◌∷◌, ◌++◌, Ok, Err, Result}
 use Rattle.refusals.specs.declared.Refusal.{Refusal}
+use Rattle.serial_transfer.specs.declared.phase.Format.TheVariants.{SingleWrite, BurstWrite, SingleRead, BurstRead}
+use Rattle.serial_transfer.specs.Rules.{code_of}
 use Rattle.rx5c348a.specs.Part.{PartState}
 use Rattle.rx5c348a.specs.Pins.{pins_part}
-use Rattle.host_wires.specs.Record.{levels, pin_record}
+use Rattle.host_wires.specs.Record.{levels_of}
 use Rattle.host_wires.specs.Shifting.{low_levels}
-use Rattle.host_sessions.specs.Sessions.{header_for, burst_write_format, burst_read_format, single_write_format, single_read_format}
+use Rattle.host_sessions.specs.Sessions.{header_for}
 
 -- A part after levels one after another.
 unfoldable pub all_driven : List ℕ → PartState → PartState
@@ -14,7 +16,7 @@ all_driven (l ∷ ls) p = all_driven ls (pins_part p l).1
 
 -- One bit: a pulse of SCLK under a high CE, SI at the bit throughout.
 abbrev pub bit_levels : Bool → List ℕ
-bit_levels si = levels (pin_record true true si) ∷ levels (pin_record true false si) ∷ []
+bit_levels si = levels_of true true si ∷ levels_of true false si ∷ []
 
 unfoldable pub bits_levels : List Bool → List ℕ
 bits_levels [] = []
@@ -44,19 +46,19 @@ transfer_levels (Err why) following = []
 transfer_levels (Ok header) following = byte_levels header ++ following
 
 abbrev pub levels_of_close : PartState → List ℕ
-levels_of_close p = levels (pin_record p.ce false false) ∷ levels (pin_record false false false) ∷ []
+levels_of_close p = levels_of p.ce false false ∷ levels_of false false false ∷ []
 
 abbrev pub levels_of_open : PartState → List ℕ
-levels_of_open p = levels_of_close p ++ levels (pin_record true false false) ∷ []
+levels_of_open p = levels_of_close p ++ levels_of true false false ∷ []
 
 abbrev pub levels_of_read : ℕ → PartState → List ℕ
-levels_of_read address p = transfer_levels (header_for p address single_read_format) (clock_levels 8)
+levels_of_read address p = transfer_levels (header_for p address (code_of SingleRead)) (clock_levels 8)
 
 abbrev pub levels_of_write : ℕ → ℕ → PartState → List ℕ
-levels_of_write address byte p = transfer_levels (header_for p address single_write_format) (byte_levels byte)
+levels_of_write address byte p = transfer_levels (header_for p address (code_of SingleWrite)) (byte_levels byte)
 
 abbrev pub levels_of_burst_read : ℕ → ℕ → PartState → List ℕ
-levels_of_burst_read address count p = transfer_levels (header_for p address burst_read_format) (read_levels count)
+levels_of_burst_read address count p = transfer_levels (header_for p address (code_of BurstRead)) (read_levels count)
 
 abbrev pub levels_of_burst_write : ℕ → List ℕ → PartState → List ℕ
-levels_of_burst_write address bytes p = transfer_levels (header_for p address burst_write_format) (bytes_levels bytes)
+levels_of_burst_write address bytes p = transfer_levels (header_for p address (code_of BurstWrite)) (bytes_levels bytes)

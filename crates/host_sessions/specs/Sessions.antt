@@ -1,12 +1,14 @@
 -- The calls of a session: what each answers, and what it leaves at both ends of the wires.
-use Rattle.std.specs.Prelude.{ℕ, ◌+◌, ◌*◌, Bool, true, false, cond, List, length, Ok, Err, Result, nat_lt}
+use Rattle.std.specs.Prelude.{ℕ, ◌+◌, ◌*◌, Bool, true, false, cond, List, length, Ok, Err, Result, bit_and, nat_lt}
 use Rattle.refusals.specs.declared.Refusal.{Refusal}
 use Rattle.refusals.specs.declared.Refusal.TheVariants.{NoSuchCell, NoHeaderAwaited}
 use Rattle.clock_core.specs.Core.{Accepted}
+use Rattle.serial_transfer.specs.declared.phase.Format.TheVariants.{SingleWrite, BurstWrite, SingleRead, BurstRead}
+use Rattle.serial_transfer.specs.Rules.{code_of}
 use Rattle.rx5c348a.specs.Part.{PartState}
 use Rattle.rx5c348a.specs.Pins.{awaits_header, pins_part}
 use Rattle.host_wires.specs.declared.record.PinRecord.{PinRecord}
-use Rattle.host_wires.specs.Record.{levels, pin_record, Wired, wired}
+use Rattle.host_wires.specs.Record.{levels_of, recorded, pin_record, Wired, wired}
 use Rattle.host_wires.specs.Shifting.{byte_in, byte_out, bytes_in, bytes_out}
 
 -- a call with no other answer was accepted
@@ -19,7 +21,7 @@ all_low = pin_record false false false
 
 -- CE and SCLK driven with SI low: the pin record follows them
 abbrev pub at_levels : Wired → Bool → Bool → Wired
-at_levels w ce sclk = wired (pin_record ce sclk false) (pins_part w.part (levels (pin_record ce sclk false))).1
+at_levels w ce sclk = wired (pin_record ce sclk false) (pins_part w.part (levels_of ce sclk false)).1
 
 -- Closing: SCLK low with CE as the part has it, then CE low.
 abbrev pub closing : Wired → Wired
@@ -29,28 +31,15 @@ closing w = at_levels (at_levels w w.part.ce false) false false
 abbrev pub opening : Wired → Wired
 opening w = at_levels (closing w) true false
 
--- The formats of a header.
-abbrev pub burst_write_format : ℕ
-burst_write_format = 0
-
-abbrev pub burst_read_format : ℕ
-burst_read_format = 4
-
-abbrev pub single_write_format : ℕ
-single_write_format = 8
-
-abbrev pub single_read_format : ℕ
-single_read_format = 12
-
 -- The header that begins a transfer: the address in the high four bits, the format in the low.
 -- An address over 15 is refused, and then a part that awaits no header.
 abbrev pub header_for : PartState → ℕ → ℕ → Result ℕ Refusal
 header_for p address format =
     cond (nat_lt 15 address) (Err NoSuchCell) (cond (awaits_header p) (Ok (16 * address + format)) (Err NoHeaderAwaited))
 
--- a pin record with SCLK and SI at rest
+-- a pin record with SCLK and SI at rest: of its levels only CE, which weighs 4, stays
 abbrev pub rested : PinRecord → PinRecord
-rested pins = pin_record pins.ce false false
+rested pins = recorded (bit_and pins.levels 4)
 
 -- After a transfer, refused or not, the pin record has SCLK and SI low.
 abbrev pub ended : Wired → Wired
@@ -62,7 +51,7 @@ read_after (Ok header) w = (Ok (byte_out (byte_in header w)).0, ended (byte_out 
 
 -- A single read: a header in, then a byte out.
 abbrev pub reading : ℕ → Wired → Result ℕ Refusal × Wired
-reading address w = read_after (header_for w.part address single_read_format) w
+reading address w = read_after (header_for w.part address (code_of SingleRead)) w
 
 abbrev pub write_after : Result ℕ Refusal → ℕ → Wired → Accepted × Wired
 write_after (Err why) byte w = (Err why, ended w)
@@ -70,7 +59,7 @@ write_after (Ok header) byte w = (accepted, ended (byte_in byte (byte_in header 
 
 -- A single write: a header in, then a byte in.
 abbrev pub writing : ℕ → ℕ → Wired → Accepted × Wired
-writing address byte w = write_after (header_for w.part address single_write_format) byte w
+writing address byte w = write_after (header_for w.part address (code_of SingleWrite)) byte w
 
 abbrev pub burst_read_after : Result ℕ Refusal → List ℕ → Wired → ℕ × List ℕ × Wired
 burst_read_after (Err why) buffer w = (0, buffer, ended w)
@@ -79,7 +68,7 @@ burst_read_after (Ok header) buffer w =
 
 -- A burst read: a header in, then bytes out until the buffer is full. It answers how many were moved.
 abbrev pub burst_reading : ℕ → List ℕ → Wired → ℕ × List ℕ × Wired
-burst_reading address buffer w = burst_read_after (header_for w.part address burst_read_format) buffer w
+burst_reading address buffer w = burst_read_after (header_for w.part address (code_of BurstRead)) buffer w
 
 abbrev pub burst_write_after : Result ℕ Refusal → List ℕ → Wired → ℕ × Wired
 burst_write_after (Err why) bytes w = (0, ended w)
@@ -87,7 +76,7 @@ burst_write_after (Ok header) bytes w = (length bytes, ended (bytes_in bytes (by
 
 -- A burst write: a header in, then bytes in. It answers how many were moved.
 abbrev pub burst_writing : ℕ → List ℕ → Wired → ℕ × Wired
-burst_writing address bytes w = burst_write_after (header_for w.part address burst_write_format) bytes w
+burst_writing address bytes w = burst_write_after (header_for w.part address (code_of BurstWrite)) bytes w
 
 -- The calls by name. They are shut, so that a host's proofs do not compute them.
 unfoldable pub closed : Wired → Wired

@@ -8,10 +8,9 @@ ghost use Rattle.host_sessions.specs.Driven.{levels_of_burst_read, levels_of_bur
 ghost use Rattle.host_sessions.specs.Laws.{BurstIsWhatStands, BurstArrives};
 
 use crate::header::header_for;
-use crate::open::Open;
+use crate::open::OpenSession;
 use crate::promises::{burst_to_arrive, burst_what_stands};
 use crate::rest::Rest;
-use crate::session::Session;
 use crate::spent::SpentSession;
 use host_wires::record::PinRecord;
 use rx5c348a::part::Rx5c348a;
@@ -65,7 +64,7 @@ pub(crate) fn write_burst(
     bytes.len()
 }
 
-impl Session<Open> {
+impl OpenSession {
     // Registers in turn from an address on, 0 after 15. Answers how many bytes were moved: the buffer's length, or none.
     // A refused burst moves none, and spends its session all the same.
     pub fn burst_read(
@@ -78,9 +77,9 @@ impl Session<Open> {
         ensures law { BurstIsWhatStands address buffer.old (seen part.old) result.1 buffer.new (seen part.new) }
         ensures driven { seen part.new ≡ all_driven (levels_of_burst_read address (length buffer.old) (seen part.old)) (seen part.old) }
     {
-        let Session { mut pins, state: _ } = self;
+        let OpenSession { mut pins } = self;
         let moved = burst_what_stands(&mut pins, part, address, buffer);
-        (Session::with(pins), moved)
+        (SpentSession { pins }, moved)
     }
 
     // Bytes to registers in turn from an address on, 0 after 15. Answers how many were moved: all, or none.
@@ -94,8 +93,8 @@ impl Session<Open> {
         ensures law { BurstArrives address bytes.now (seen part.old) result.1 (seen part.new) }
         ensures driven { seen part.new ≡ all_driven (levels_of_burst_write address bytes.now (seen part.old)) (seen part.old) }
     {
-        let Session { mut pins, state: _ } = self;
+        let OpenSession { mut pins } = self;
         let moved = burst_to_arrive(&mut pins, part, address, bytes);
-        (Session::with(pins), moved)
+        (SpentSession { pins }, moved)
     }
 }

@@ -8,25 +8,22 @@ ghost use Rattle.host_sessions.specs.Laws.{Opens};
 
 use crate::open::OpenSession;
 use crate::promises::open_to_a_header;
-use crate::session::Session;
 use host_wires::record::PinRecord;
 use rx5c348a::part::Rx5c348a;
 
-// No transfer can be made: open first.
-pub struct Idle;
+// No transfer can be made: open first. A session is moved from call to call, so what its state does not take does not build.
+pub struct IdleSession {
+    pub(crate) pins: PinRecord,
+}
 
-pub type IdleSession = Session<Idle>;
-
-impl Session<Idle> {
+impl IdleSession {
     // A host that drives nothing yet.
     pub fn new() -> IdleSession
         ensures { result.pins ≡ all_low }
     {
-        Session::with(PinRecord {
-            ce: false,
-            sclk: false,
-            si: false,
-        })
+        IdleSession {
+            pins: PinRecord { levels: 0 },
+        }
     }
 
     // SCLK low, CE low, CE high, with SI low: the part then awaits a header, whatever it was doing.
@@ -35,16 +32,16 @@ impl Session<Idle> {
         ensures law { Opens (seen part.old) (seen part.new) }
         ensures driven { seen part.new ≡ all_driven (levels_of_open (seen part.old)) (seen part.old) }
     {
-        let Session { mut pins, state: _ } = self;
+        let IdleSession { mut pins } = self;
         open_to_a_header(&mut pins, part);
-        Session::with(pins)
+        OpenSession { pins }
     }
 
     // The host is done. Answers the levels that it leaves on the wires.
     pub fn end(self) -> PinRecord
         ensures { result ≡ self.pins }
     {
-        let Session { pins, state: _ } = self;
+        let IdleSession { pins } = self;
         pins
     }
 }

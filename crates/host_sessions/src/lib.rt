@@ -8,7 +8,6 @@ pub mod idle;
 pub mod open;
 mod promises;
 mod rest;
-pub mod session;
 pub mod singles;
 pub mod spent;
 mod wires;

@@ -8,10 +8,9 @@ ghost use Rattle.host_sessions.specs.Driven.{levels_of_read, levels_of_write, al
 ghost use Rattle.host_sessions.specs.Laws.{ReadIsWhatStands, WrittenArrives};
 
 use crate::header::header_for;
-use crate::open::Open;
+use crate::open::OpenSession;
 use crate::promises::{read_what_stands, write_to_arrive};
 use crate::rest::Rest;
-use crate::session::Session;
 use host_wires::record::PinRecord;
 use refusals::Refusal;
 use rx5c348a::part::Rx5c348a;
@@ -59,7 +58,7 @@ pub(crate) fn write_single(
     Ok(())
 }
 
-impl Session<Open> {
+impl OpenSession {
     // The byte of a register.
     pub fn read(&mut self, part: &mut Rx5c348a, address: u32) -> Result<u8, Refusal>
         ensures value { (result, wired self.new.pins (seen part.new)) ≡ single_read address (wired self.old.pins (seen part.old)) }

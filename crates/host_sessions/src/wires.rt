@@ -13,14 +13,7 @@ use rx5c348a::part::Rx5c348a;
 fn drive(pins: &mut PinRecord, part: &mut Rx5c348a, ce: bool, sclk: bool)
     ensures { wired pins.new (seen part.new) ≡ at_levels (wired pins.old (seen part.old)) ce sclk }
 {
-    pins.drive(
-        part,
-        PinRecord {
-            ce,
-            sclk,
-            si: false,
-        },
-    );
+    pins.drive(part, PinRecord::of(ce, sclk, false));
 }
 
 // SCLK low with CE as it stands, then CE low.

@@ -60,7 +60,7 @@ fn many_transfers_in_one_session(rt: HostRuntime) -> Result<(), Fail> {
         let read = session.read(&mut part, 7);
         agree = agree && refused_with(written) == 0 && byte_or_number(read) == Ok(byte);
     }
-    let levels = session.pin_record().levels();
+    let levels = u64::from(session.pin_record().levels);
     session.close(&mut part).end();
     assert!(rt; agree);
     assert_eq!(rt; levels, CE);

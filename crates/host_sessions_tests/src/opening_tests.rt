@@ -11,9 +11,9 @@ use std::test::Fail;
 fn opens_well(rt: &impl Abort, part: &mut Rx5c348a, trim: u8) {
     let mut session = IdleSession::new().open(part);
     let awaits = part.awaits_header();
-    let levels = session.pin_record().levels();
+    let levels = u64::from(session.pin_record().levels);
     let read = session.read(part, 7);
-    let left = session.close(part).end().levels();
+    let left = u64::from(session.close(part).end().levels);
     assert!(rt; awaits);
     assert_eq!(rt; levels, CE);
     assert_eq!(rt; byte_or_number(read), Ok(trim));
@@ -137,7 +137,7 @@ fn closing_lands_a_byte(rt: HostRuntime) -> Result<(), Fail> {
     let session = IdleSession::new().open(&mut part);
     let clocked = clock_but_the_last_fall(&mut part, 0x78, 0x55);
     let before = look(&part);
-    let left = session.close(&mut part).end().levels();
+    let left = u64::from(session.close(&mut part).end().levels);
     clocked?;
     assert_eq!(rt; before?, on_friday([0x00, 0x00, 0x00]));
     assert_eq!(rt; left, 0);

@@ -19,7 +19,7 @@ fn addresses_over_fifteen(rt: HostRuntime) -> Result<(), Fail> {
         let after = all_of(&part);
         let awaits = part.awaits_header();
         let served = session.read(&mut part, 0);
-        let levels = session.pin_record().levels();
+        let levels = u64::from(session.pin_record().levels);
         session.close(&mut part).end();
         assert_eq!(rt; byte_or_number(read), Err(7));
         assert_eq!(rt; refused_with(written), 7);
@@ -46,7 +46,7 @@ fn seven_before_ten(rt: HostRuntime) -> Result<(), Fail> {
         agree = agree && byte_or_number(read) == Err(number) && refused_with(written) == number;
     }
     let after = all_of(&part);
-    let levels = session.pin_record().levels();
+    let levels = u64::from(session.pin_record().levels);
     session.close(&mut part).end();
     clocked?;
     assert!(rt; agree);
@@ -71,7 +71,7 @@ fn bursts_refused(rt: HostRuntime) -> Result<(), Fail> {
     let mut buffer = [0xAAu8; 5];
     let (spent, moved) = session.burst_read(&mut part, 0, &mut buffer);
     let after = all_of(&part);
-    let levels = spent.pin_record().levels();
+    let levels = u64::from(spent.pin_record().levels);
     spent.close(&mut part).end();
     clocked?;
     assert_eq!(rt; moved, 0);

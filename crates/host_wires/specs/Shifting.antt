@@ -8,7 +8,7 @@ use Rattle.serial_transfer.specs.Bytes.{spelt}
 use Rattle.rx5c348a.specs.declared.pins.PinAnswer.{PinAnswer}
 use Rattle.rx5c348a.specs.Pins.{pins_part}
 use Rattle.host_wires.specs.declared.record.PinRecord.{PinRecord}
-use Rattle.host_wires.specs.Record.{levels, pin_record, Wired, wired}
+use Rattle.host_wires.specs.Record.{pin_record, Wired, wired}
 
 -- SO as it is answered; a refused call leaves the host with nothing on it
 abbrev pub so_heard : Result PinAnswer Refusal → SerialOut
@@ -17,7 +17,7 @@ so_heard (Err _) = Off
 
 -- levels driven: what the host hears on SO, and both ends then
 abbrev pub driven_to : Wired → PinRecord → SerialOut × Wired
-driven_to w to = (so_heard (pins_part w.part (levels to)).0, wired to (pins_part w.part (levels to)).1)
+driven_to w to = (so_heard (pins_part w.part to.levels).0, wired to (pins_part w.part to.levels).1)
 
 -- the same with CE high
 abbrev pub driven : Wired → Bool → Bool → SerialOut × Wired

@@ -18,7 +18,7 @@ impl PinRecord {
         ensures { (result, wired self.new (seen part.new)) ≡ driven_to (wired self.old (seen part.old)) to }
     {
         *self = to;
-        match part.pins(to.levels()) {
+        match part.pins(u64::from(to.levels)) {
             Ok(answer) => answer.so,
             Err(_) => SerialOut::Off,
         }
@@ -28,7 +28,7 @@ impl PinRecord {
     fn drive_clock(&mut self, part: &mut Rx5c348a, sclk: bool, si: bool) -> SerialOut
         ensures { (result, wired self.new (seen part.new)) ≡ driven (wired self.old (seen part.old)) sclk si }
     {
-        self.drive(part, PinRecord { ce: true, sclk, si })
+        self.drive(part, PinRecord::of(true, sclk, si))
     }
 
     // One bit on SI.
