@@ -11,6 +11,7 @@ use lines::{print_answer, print_call, print_core};
 use register_map::hour_mode::HourMode;
 use register_map::map::RegisterMap;
 use register_map::shown::Shown;
+use timekeeping::call::CoreAnswer;
 use timekeeping::work::work_calls;
 
 // 13:59:58 on 17 July 2026, a Friday: 36,525 days from 1900 to 2000, 9,694 days more, and the time of day.
@@ -35,7 +36,8 @@ fn map_at_the_moment() -> ByteMap {
 fn run(rt: &HostRuntime) -> anyhow::Result<()> {
     let mut core = ClockCore::make(map_at_the_moment(), TRIM).map_err(|refused| refused.refusal)?;
     print_core(rt, &core)?;
-    let answers = work_calls(rt.alloc(), &mut core, &CALLS)?;
+    let mut answers = [Ok(CoreAnswer::Accepted); CALLS.len()];
+    work_calls(&mut core, &CALLS, &mut answers);
     for (call, answer) in CALLS.iter().zip(answers.iter()) {
         print_call(rt, *call)?;
         print_answer(rt, *answer)?;

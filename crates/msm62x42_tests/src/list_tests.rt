@@ -49,8 +49,21 @@ const ANSWERS: [Result<CoreAnswer, Refusal>; 16] = [
 #[test]
 fn a_list_and_its_answers(rt: HostRuntime) -> Result<(), Fail> {
     let mut part = part_at(50_399, TWENTY_FOUR)?;
-    let answers = work_calls(rt.alloc(), &mut part, &CALLS)?;
-    assert_eq!(rt; answers.as_slice(), ANSWERS.as_slice());
+    let mut answers = [Err(Refusal::NoSuchCell); 18];
+    assert_eq!(rt; work_calls(&mut part, &CALLS, &mut answers), 16);
+    assert_eq!(rt; &answers[..16], ANSWERS.as_slice());
+    assert_eq!(rt; &answers[16..], [Err(Refusal::NoSuchCell); 2].as_slice());
     assert_eq!(rt; (part.core.position, part.core.is_held()), (12, false));
+    Ok(())
+}
+
+// Room for fewer answers: so many calls are worked, and no more.
+#[test]
+fn a_list_with_little_room(rt: HostRuntime) -> Result<(), Fail> {
+    let mut part = part_at(50_399, TWENTY_FOUR)?;
+    let mut answers = [Err(Refusal::NoSuchCell); 4];
+    assert_eq!(rt; work_calls(&mut part, &CALLS, &mut answers), 4);
+    assert_eq!(rt; answers.as_slice(), &ANSWERS[..4]);
+    assert_eq!(rt; part.core.position, 32_760);
     Ok(())
 }

@@ -6,6 +6,7 @@ pub mod Keeping
 pub mod Loads
 pub mod Moments
 pub mod Outcomes
+pub mod Rows
 pub mod ShortLogs
 pub mod Stretches
 pub mod Theorem

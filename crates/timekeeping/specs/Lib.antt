@@ -3,3 +3,4 @@ pub mod Example
 pub mod Law
 pub mod Logs
 pub mod Seconds
+pub mod Worked

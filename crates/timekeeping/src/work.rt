@@ -1,14 +1,14 @@
 // Works a list of calls on one thing with a core in it.
-ghost use Rattle.std.specs.Prelude.{◌≡◌, List, MatchResult, Result};
+ghost use Rattle.std.specs.Prelude.{◌≡◌, ◌++◌, List, Result};
 ghost use Rattle.refusals.specs.declared.Refusal.{Refusal as Why};
 ghost use Rattle.register_map.specs.declared.hour_mode.HourMode.{HourMode};
 ghost use Rattle.register_map.specs.Chart.{Chart};
 ghost use Rattle.clock_core.specs.Core.{CoreState};
-ghost use Rattle.timekeeping.specs.Logs.{Sight, Heard, machine_of, outcome};
+ghost use Rattle.timekeeping.specs.Logs.{Sight, Heard, machine_of, state_after, log_of};
+ghost use Rattle.timekeeping.specs.Worked.{calls_worked, worked};
 ghost use Rattle.timekeeping.specs.Law.{KeepsTime};
 
 use refusals::Refusal;
-use std::alloc::{AllocError, Global};
 
 // A call on such a thing, as a list has it.
 pub trait Call<T>: Copy {
@@ -42,21 +42,48 @@ pub trait Call<T>: Copy {
         ensures { (start : State) → begins start → (calls : List Self) → KeepsTime (machine_of step core sight) chart start calls };
 }
 
-// Works a list of calls, one after the other, and gives their answers. From a newly made core the list keeps time.
-// Room for the answers is found first: want of memory leaves the thing as it was.
-pub fn work_calls<T, C: Call<T>>(
-    heap: Global,
+// One call of a list, its answer in its place.
+fn work_into<T, C: Call<T>>(thing: &mut T, call: C, answer: &mut Result<C::Answer, Refusal>)
+    ensures { (answer.new, C.seen thing.new) ≡ C.step (C.seen thing.old) call }
+{
+    *answer = call.call(thing);
+}
+
+// The calls by number: a pair of iterators would not say which answer stands where.
+fn work_in_turn<T, C: Call<T>>(
     thing: &mut T,
     calls: &[C],
-) -> Result<Vec<Result<C::Answer, Refusal>>, AllocError>
-    ensures answers { MatchResult result (λ v. outcome (machine_of C.step C.core C.sight) (C.seen thing.old) calls.now ≡ (v.items, C.seen thing.new)) (λ _. C.seen thing.new ≡ C.seen thing.old) }
-    ensures law { C.begins (C.seen thing.old) → KeepsTime (machine_of C.step C.core C.sight) C.chart (C.seen thing.old) calls.now }
+    answers: &mut [Result<C::Answer, Refusal>],
+) -> usize
+    ensures { (result, C.seen thing.new, answers.new)
+        ≡ worked (machine_of C.step C.core C.sight) (C.seen thing.old) calls.now answers.old }
+{
+    let count = calls.len().min(answers.len());
+    for place in 0..count {
+        work_into(thing, calls[place], &mut answers[place]);
+    }
+    count
+}
+
+// Works a list of calls, one after the other, as many as there is room for answers, and gives their number.
+// From a newly made core the calls worked keep time, and so do they after any others.
+pub fn work_calls<T, C: Call<T>>(
+    thing: &mut T,
+    calls: &[C],
+    answers: &mut [Result<C::Answer, Refusal>],
+) -> usize
+    ensures answers { (result, C.seen thing.new, answers.new)
+        ≡ worked (machine_of C.step C.core C.sight) (C.seen thing.old) calls.now answers.old }
+    ensures law { C.begins (C.seen thing.old)
+        → KeepsTime (machine_of C.step C.core C.sight) C.chart
+        (C.seen thing.old) (calls_worked calls.now answers.old) }
+    ensures goes_on { (start : C.State) (before : List C) → C.begins start
+        → C.seen thing.old
+        ≡ state_after (machine_of C.step C.core C.sight) start
+        (log_of (machine_of C.step C.core C.sight) start before)
+        → KeepsTime (machine_of C.step C.core C.sight) C.chart
+        start (before ++ calls_worked calls.now answers.old) }
 {
     C::keeps_time();
-    let mut answers = Vec::with_capacity(heap, calls.len())?;
-    for call in calls {
-        let answer = call.call(thing);
-        answers.push_reserved(answer);
-    }
-    Ok(answers)
+    work_in_turn(thing, calls, answers)
 }
