@@ -2,3 +2,4 @@ pub mod Wires
 pub mod GivenCells
 pub mod SessionReads
 pub mod EighthRises
+pub mod Rows

@@ -117,18 +117,13 @@ one_on_wires s (First call) =
 one_on_wires s (Second call) =
     session_driven s.part s.buffer s.second call ∙ sym (levels_end s.part (session_levels s.second s.part (length s.buffer) call))
 
-run_on_wires : (s : HostState) (calls : List HostCall) → (host_run s calls).1.part ≡ end_state s.part (on_wires s calls)
+pub run_on_wires : (s : HostState) (calls : List HostCall) → (host_run s calls).1.part ≡ end_state s.part (on_wires s calls)
 unfolding host_run on_wires work_one end_state
 run_on_wires s [] = refl
 run_on_wires s (call ∷ calls) =
     run_on_wires (host_step s call).1 calls
     ∙ ap (λ (p : PartState). end_state p (on_wires (host_step s call).1 calls)) (one_on_wires s call)
     ∙ sym (in_parts s.part (wire_calls_of s call) (on_wires (host_step s call).1 calls))
-
--- a list of hosts' calls leaves the part as the calls on it do
-pub ends_on_wires : (s t : HostState) (calls : List HostCall) (answers : List Answered) → host_run s calls ≡ (answers, t) → t.part ≡ part_after s.part (on_wires s calls)
-ends_on_wires s t calls answers e =
-    sym (ap (λ (r : List Answered × HostState). r.1.part) e) ∙ run_on_wires s calls ∙ sym (ends_at s.part (on_wires s calls))
 
 -- the list on the wires begins with what its first calls make there
 in_part : (s : HostState) (earlier later : List HostCall) → on_wires s (earlier ++ later) ≡ on_wires s earlier ++ on_wires (host_run s earlier).1 later

@@ -2,6 +2,7 @@
 use Rattle.std.specs.Prelude.{ℕ, min, List, [], ◌∷◌, ◌++◌, length, take, drop, Ok, Err, Result}
 use Rattle.refusals.specs.declared.Refusal.{Refusal}
 use Rattle.clock_core.specs.Core.{Accepted}
+use Rattle.timekeeping.specs.Worked.{number_worked, calls_worked, into_row}
 use Rattle.rx5c348a.specs.Part.{PartState}
 use Rattle.rx5c348a_runs.specs.Calls.{Answered as WireAnswered, work_one as wire_one}
 use Rattle.host_wires.specs.declared.record.PinRecord.{PinRecord}
@@ -142,3 +143,10 @@ with_answer answer r = (answer ∷ r.0, r.1)
 unfoldable pub host_run : HostState → List HostCall → List Answered × HostState
 host_run s [] = ([], s)
 host_run s (call ∷ calls) = with_answer (work_one s call).0 (host_run (work_one s call).1 calls)
+
+-- A list worked into a row of answers, as far as there is room: the number of the calls worked,
+-- what stands then, and the row.
+abbrev pub hosts_worked :
+    HostState → List HostCall → List Answered → ℕ × HostState × List Answered
+hosts_worked s calls row =
+    into_row (number_worked calls row) (host_run s (calls_worked calls row)) row

@@ -98,17 +98,15 @@ fn step_spent(
 }
 
 impl HostSession {
-    // One call, as far as the session's state takes it. It is its levels, however many sessions there are.
-    pub fn step(
+    // One call, as far as the session's state takes it.
+    fn step_by_state(
         self,
         part: &mut Rx5c348a,
         call: SessionCall<'_>,
         buffer: &mut [u8],
     ) -> (HostSession, Result<HostAnswer, Refusal>)
-        ensures value { stepped result.1 (seat result.0) (seen part.new) buffer.new ≡ session_step (seat self) (seen part.old) buffer.old call.entry }
-        ensures levels { seen part.new ≡ part_after_levels (seen part.old) (session_levels (seat self) (seen part.old) (length buffer.old) call.entry) }
-        ensures heard { CellsAreHeard (seen part.old) (session_levels (seat self) (seen part.old) (length buffer.old) call.entry) call.entry result.1 buffer.new }
-        ensures reads { CellsAgree (seen part.old) call.entry result.1 buffer.new }
+        ensures { stepped result.1 (seat result.0) (seen part.new) buffer.new
+            ≡ session_step (seat self) (seen part.old) buffer.old call.entry }
     {
         match self {
             HostSession::Idle(session) => step_idle(session, part, call),
@@ -117,15 +115,42 @@ impl HostSession {
         }
     }
 
-    // Closes what is open, and ends.
-    pub fn end(self, part: &mut Rx5c348a) -> PinRecord
-        ensures value { wired result (seen part.new) ≡ session_ended (seat self) (seen part.old) }
-        ensures levels { seen part.new ≡ part_after_levels (seen part.old) (ending_levels (seat self) (seen part.old)) }
+    // One call of a session. It is its levels, however many sessions there are.
+    pub fn step(
+        self,
+        part: &mut Rx5c348a,
+        call: SessionCall<'_>,
+        buffer: &mut [u8],
+    ) -> (HostSession, Result<HostAnswer, Refusal>)
+        ensures value { stepped result.1 (seat result.0) (seen part.new) buffer.new
+            ≡ session_step (seat self) (seen part.old) buffer.old call.entry }
+        ensures levels { seen part.new ≡ part_after_levels (seen part.old)
+            (session_levels (seat self) (seen part.old) (length buffer.old) call.entry) }
+        ensures heard { CellsAreHeard (seen part.old)
+            (session_levels (seat self) (seen part.old) (length buffer.old) call.entry)
+            call.entry result.1 buffer.new }
+        ensures reads { CellsAgree (seen part.old) call.entry result.1 buffer.new }
+    {
+        self.step_by_state(part, call, buffer)
+    }
+
+    // Closes what is open.
+    fn end_by_state(self, part: &mut Rx5c348a) -> PinRecord
+        ensures { wired result (seen part.new) ≡ session_ended (seat self) (seen part.old) }
     {
         match self {
             HostSession::Idle(session) => session.end(),
             HostSession::Active(session) => session.close(part).end(),
             HostSession::Spent(session) => session.close(part).end(),
         }
+    }
+
+    // Closes what is open, and ends. It is its levels too.
+    pub fn end(self, part: &mut Rx5c348a) -> PinRecord
+        ensures value { wired result (seen part.new) ≡ session_ended (seat self) (seen part.old) }
+        ensures levels { seen part.new
+            ≡ part_after_levels (seen part.old) (ending_levels (seat self) (seen part.old)) }
+    {
+        self.end_by_state(part)
     }
 }

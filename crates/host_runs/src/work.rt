@@ -1,11 +1,14 @@
 // Works a list of calls of two hosts on one part.
-ghost use Rattle.std.specs.Prelude.{◌≡◌, MatchResult, OnOk};
+ghost use Rattle.std.specs.Prelude.{◌≡◌, ◌++◌, List};
 ghost use Rattle.byte_map.specs.Cells.{byte_chart};
+ghost use Rattle.timekeeping.specs.Worked.{calls_worked};
 ghost use Rattle.timekeeping.specs.Law.{KeepsTime};
+ghost use Rattle.rx5c348a.specs.Part.{PartState, seen};
+ghost use Rattle.rx5c348a_runs.specs.declared.call.WireCall.{WireCall as CallOnWires};
 ghost use Rattle.rx5c348a_runs.specs.Calls.{part_machine};
 ghost use Rattle.rx5c348a_runs.specs.Start.{AtRest};
-ghost use Rattle.rx5c348a.specs.Part.{seen};
-ghost use Rattle.host_runs.specs.Hosts.{work_one, host_run};
+ghost use Rattle.host_runs.specs.declared.call.HostCall.{HostCall as CallOfHosts};
+ghost use Rattle.host_runs.specs.Hosts.{HostState, work_one, host_run, hosts_worked};
 ghost use Rattle.host_runs.specs.Standing.{standing};
 ghost use Rattle.host_runs.specs.Levels.{on_wires, part_after, LevelsAfterEachCall};
 ghost use Rattle.host_runs.specs.Reads.{SessionReadsAreHeard, SessionReadsAgree};
@@ -14,7 +17,6 @@ use crate::call::{HostAnswer, HostCall};
 use crate::session::HostSession;
 use refusals::Refusal;
 use rx5c348a::part::Rx5c348a;
-use std::alloc::{AllocError, Global};
 use timekeeping::work::Call;
 
 // The sessions of two hosts on one part.
@@ -52,33 +54,84 @@ impl Hosts {
     }
 }
 
-// Works a list of calls, one after the other, and gives their answers. From a newly loaded part the list keeps time,
-// each call of a session taken as the levels that it drives.
-// Room for the answers is found first: want of memory leaves all as it was.
-pub fn work_host_calls(
-    heap: Global,
+// One call of a list, its answer in its place.
+fn work_into(
     hosts: Hosts,
     part: &mut Rx5c348a,
-    calls: &[HostCall<'_>],
     buffer: &mut [u8],
-) -> (Hosts, Result<Vec<Result<HostAnswer, Refusal>>, AllocError>)
-    ensures answers { MatchResult result.1 (λ v. host_run (standing hosts (seen part.old) buffer.old) calls.now ≡ (v.items, standing result.0 (seen part.new) buffer.new)) (λ _. standing result.0 (seen part.new) buffer.new ≡ standing hosts (seen part.old) buffer.old) }
-    ensures levels { OnOk result.1 (seen part.new ≡ part_after (seen part.old) (on_wires (standing hosts (seen part.old) buffer.old) calls.now)) }
-    ensures each_call { LevelsAfterEachCall (standing hosts (seen part.old) buffer.old) calls.now }
-    ensures law { AtRest (seen part.old) → KeepsTime part_machine byte_chart (seen part.old) (on_wires (standing hosts (seen part.old) buffer.old) calls.now) }
-    ensures heard { AtRest (seen part.old) → SessionReadsAreHeard (standing hosts (seen part.old) buffer.old) calls.now }
-    ensures reads { AtRest (seen part.old) → SessionReadsAgree (standing hosts (seen part.old) buffer.old) calls.now }
+    call: HostCall<'_>,
+    answer: &mut Result<HostAnswer, Refusal>,
+) -> Hosts
+    ensures { (answer.new, standing result (seen part.new) buffer.new)
+        ≡ work_one (standing hosts (seen part.old) buffer.old) call.entry }
 {
-    let mut answers = match Vec::with_capacity(heap, calls.len()) {
-        Ok(room) => room,
-        Err(full) => return (hosts, Err(full)),
-    };
+    let (hosts, answered) = hosts.call(part, call, buffer);
+    *answer = answered;
+    hosts
+}
+
+// A loop of its own: a call moves the sessions, and to be a `Call` on a thing that stays they would have to be taken out
+// and put back, which is no plainer.
+fn work_in_turn(
+    hosts: Hosts,
+    part: &mut Rx5c348a,
+    buffer: &mut [u8],
+    calls: &[HostCall<'_>],
+    answers: &mut [Result<HostAnswer, Refusal>],
+) -> (Hosts, usize)
+    ensures { (result.1, standing result.0 (seen part.new) buffer.new, answers.new)
+        ≡ hosts_worked (standing hosts (seen part.old) buffer.old) calls.now answers.old }
+{
+    let count = calls.len().min(answers.len());
     let mut hosts = hosts;
-    // a loop of its own: a call moves the sessions, and to be a `Call` on a thing that stays they would have to be taken out and put back, which is no plainer
-    for call in calls {
-        let (next, answer) = hosts.call(part, *call, buffer);
-        hosts = next;
-        answers.push_reserved(answer);
+    for place in 0..count {
+        hosts = work_into(hosts, part, buffer, calls[place], &mut answers[place]);
     }
-    (hosts, Ok(answers))
+    (hosts, count)
+}
+
+// What stands for every list: the calls of sessions are their levels, lists keep time, and hosts are given what is heard.
+fn lists_keep_time()
+    ensures levels { (s : HostState) (calls : List CallOfHosts)
+        → (host_run s calls).1.part ≡ part_after s.part (on_wires s calls) }
+    ensures each_call { (s : HostState) (calls : List CallOfHosts) → LevelsAfterEachCall s calls }
+    ensures law { (start : PartState) → AtRest start → (calls : List CallOnWires)
+        → KeepsTime part_machine byte_chart start calls }
+    ensures heard { (s : HostState) → AtRest s.part → (calls : List CallOfHosts)
+        → SessionReadsAreHeard s calls }
+    ensures reads { (s : HostState) → AtRest s.part → (calls : List CallOfHosts)
+        → SessionReadsAgree s calls }
+{}
+
+// Works a list of calls, one after the other, as many as there is room for answers, and gives their number.
+// From a newly loaded part the calls worked keep time, each call of a session taken as the levels that it drives,
+// and so do they after any calls on the part.
+pub fn work_host_calls(
+    hosts: Hosts,
+    part: &mut Rx5c348a,
+    buffer: &mut [u8],
+    calls: &[HostCall<'_>],
+    answers: &mut [Result<HostAnswer, Refusal>],
+) -> (Hosts, usize)
+    ensures answers { (result.1, standing result.0 (seen part.new) buffer.new, answers.new)
+        ≡ hosts_worked (standing hosts (seen part.old) buffer.old) calls.now answers.old }
+    ensures levels { seen part.new ≡ part_after (seen part.old)
+        (on_wires (standing hosts (seen part.old) buffer.old) (calls_worked calls.now answers.old)) }
+    ensures each_call { LevelsAfterEachCall (standing hosts (seen part.old) buffer.old)
+        (calls_worked calls.now answers.old) }
+    ensures law { AtRest (seen part.old) → KeepsTime part_machine byte_chart (seen part.old)
+        (on_wires (standing hosts (seen part.old) buffer.old) (calls_worked calls.now answers.old)) }
+    ensures goes_on { (start : PartState) (before : List CallOnWires) → AtRest start
+        → seen part.old ≡ part_after start before
+        → KeepsTime part_machine byte_chart start (before ++ on_wires
+        (standing hosts (seen part.old) buffer.old) (calls_worked calls.now answers.old)) }
+    ensures heard { AtRest (seen part.old)
+        → SessionReadsAreHeard (standing hosts (seen part.old) buffer.old)
+        (calls_worked calls.now answers.old) }
+    ensures reads { AtRest (seen part.old)
+        → SessionReadsAgree (standing hosts (seen part.old) buffer.old)
+        (calls_worked calls.now answers.old) }
+{
+    lists_keep_time();
+    work_in_turn(hosts, part, buffer, calls, answers)
 }

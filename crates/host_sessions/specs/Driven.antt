@@ -52,13 +52,17 @@ abbrev pub levels_of_open : PartState → List ℕ
 levels_of_open p = levels_of_close p ++ levels_of true false false ∷ []
 
 abbrev pub levels_of_read : ℕ → PartState → List ℕ
-levels_of_read address p = transfer_levels (header_for p address (code_of SingleRead)) (clock_levels 8)
+levels_of_read address p =
+    transfer_levels (header_for p address (code_of SingleRead)) (clock_levels 8)
 
 abbrev pub levels_of_write : ℕ → ℕ → PartState → List ℕ
-levels_of_write address byte p = transfer_levels (header_for p address (code_of SingleWrite)) (byte_levels byte)
+levels_of_write address byte p =
+    transfer_levels (header_for p address (code_of SingleWrite)) (byte_levels byte)
 
 abbrev pub levels_of_burst_read : ℕ → ℕ → PartState → List ℕ
-levels_of_burst_read address count p = transfer_levels (header_for p address (code_of BurstRead)) (read_levels count)
+levels_of_burst_read address count p =
+    transfer_levels (header_for p address (code_of BurstRead)) (read_levels count)
 
 abbrev pub levels_of_burst_write : ℕ → List ℕ → PartState → List ℕ
-levels_of_burst_write address bytes p = transfer_levels (header_for p address (code_of BurstWrite)) (bytes_levels bytes)
+levels_of_burst_write address bytes p =
+    transfer_levels (header_for p address (code_of BurstWrite)) (bytes_levels bytes)

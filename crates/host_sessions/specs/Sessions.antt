@@ -21,7 +21,8 @@ all_low = pin_record false false false
 
 -- CE and SCLK driven with SI low: the pin record follows them
 abbrev pub at_levels : Wired → Bool → Bool → Wired
-at_levels w ce sclk = wired (pin_record ce sclk false) (pins_part w.part (levels_of ce sclk false)).1
+at_levels w ce sclk =
+    wired (pin_record ce sclk false) (pins_part w.part (levels_of ce sclk false)).1
 
 -- Closing: SCLK low with CE as the part has it, then CE low.
 abbrev pub closing : Wired → Wired
@@ -68,7 +69,8 @@ burst_read_after (Ok header) buffer w =
 
 -- A burst read: a header in, then bytes out until the buffer is full. It answers how many were moved.
 abbrev pub burst_reading : ℕ → List ℕ → Wired → ℕ × List ℕ × Wired
-burst_reading address buffer w = burst_read_after (header_for w.part address (code_of BurstRead)) buffer w
+burst_reading address buffer w =
+    burst_read_after (header_for w.part address (code_of BurstRead)) buffer w
 
 abbrev pub burst_write_after : Result ℕ Refusal → List ℕ → Wired → ℕ × Wired
 burst_write_after (Err why) bytes w = (0, ended w)
@@ -76,7 +78,8 @@ burst_write_after (Ok header) bytes w = (length bytes, ended (bytes_in bytes (by
 
 -- A burst write: a header in, then bytes in. It answers how many were moved.
 abbrev pub burst_writing : ℕ → List ℕ → Wired → ℕ × Wired
-burst_writing address bytes w = burst_write_after (header_for w.part address (code_of BurstWrite)) bytes w
+burst_writing address bytes w =
+    burst_write_after (header_for w.part address (code_of BurstWrite)) bytes w
 
 -- The calls by name. They are shut, so that a host's proofs do not compute them.
 unfoldable pub closed : Wired → Wired

@@ -28,9 +28,11 @@ impl IdleSession {
 
     // SCLK low, CE low, CE high, with SI low: the part then awaits a header, whatever it was doing.
     pub fn open(self, part: &mut Rx5c348a) -> OpenSession
-        ensures value { wired result.pins (seen part.new) ≡ opened (wired self.pins (seen part.old)) }
+        ensures value { wired result.pins (seen part.new)
+            ≡ opened (wired self.pins (seen part.old)) }
         ensures law { Opens (seen part.old) (seen part.new) }
-        ensures driven { seen part.new ≡ all_driven (levels_of_open (seen part.old)) (seen part.old) }
+        ensures driven { seen part.new
+            ≡ all_driven (levels_of_open (seen part.old)) (seen part.old) }
     {
         let IdleSession { mut pins } = self;
         open_to_a_header(&mut pins, part);

@@ -26,9 +26,11 @@ impl OpenSession {
 
     // SCLK low, then CE low, with SI low.
     pub fn close(self, part: &mut Rx5c348a) -> IdleSession
-        ensures value { wired result.pins (seen part.new) ≡ closed (wired self.pins (seen part.old)) }
+        ensures value { wired result.pins (seen part.new)
+            ≡ closed (wired self.pins (seen part.old)) }
         ensures law { Closes (seen part.old) (seen part.new) }
-        ensures driven { seen part.new ≡ all_driven (levels_of_close (seen part.old)) (seen part.old) }
+        ensures driven { seen part.new
+            ≡ all_driven (levels_of_close (seen part.old)) (seen part.old) }
     {
         let OpenSession { mut pins } = self;
         close_to_rest(&mut pins, part);

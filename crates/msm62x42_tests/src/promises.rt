@@ -34,7 +34,8 @@ pub fn work_part_calls(
 ) -> usize
     ensures answers { (result, seen part.new, answers.new)
         ≡ worked part_machine (seen part.old) calls.now answers.old }
-    ensures law { KeepsTime part_machine digit_chart (seen part.old) (calls_worked calls.now answers.old) }
+    ensures law { KeepsTime part_machine digit_chart (seen part.old)
+        (calls_worked calls.now answers.old) }
     ensures goes_on { (start : CoreState) (before : List CallOfPart)
         → seen part.old ≡ state_after part_machine start (log_of part_machine start before)
         → KeepsTime part_machine digit_chart start (before ++ calls_worked calls.now answers.old) }

@@ -5,6 +5,7 @@ mod calls;
 mod lines;
 
 use calls::{CALLS, START};
+use host_runs::call::HostAnswer;
 use host_runs::session::HostSession;
 use host_runs::work::{Hosts, work_host_calls};
 use host_sessions::idle::IdleSession;
@@ -22,17 +23,11 @@ fn run(rt: &HostRuntime) -> anyhow::Result<()> {
     let mut part = Rx5c348a::power_on();
     part.load(START)?;
     let mut buffer = [0u8; 7];
-    let (hosts, worked) = work_host_calls(
-        rt.alloc(),
-        fresh_hosts(),
-        &mut part,
-        &CALLS,
-        &mut buffer,
-    );
+    let mut answers = [Ok(HostAnswer::Done); CALLS.len()];
+    let (hosts, _) = work_host_calls(fresh_hosts(), &mut part, &mut buffer, &CALLS, &mut answers);
     let Hosts { first, second } = hosts;
     first.end(&mut part);
     second.end(&mut part);
-    let answers = worked?;
     for (call, answer) in CALLS.iter().zip(answers.iter()) {
         print_call(rt, *call)?;
         print_answer(rt, *answer)?;
