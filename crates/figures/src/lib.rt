@@ -1,13 +1,9 @@
 // The figures that docs/FIGURES.md marks as proved.
 #![tactic(auto)]
 
-ghost use Rattle.std.specs.Prelude.{true, ◌≡◌};
 ghost use Rattle.figures.specs.Figures.{Figures};
 
 // Says that every figure follows from the definitions that the contracts use.
-pub fn figures_stand() -> bool
-    ensures law { Figures }
-    ensures answer { result ≡ true }
-{
-    true
-}
+pub fn figures_stand()
+    ensures { Figures }
+{}

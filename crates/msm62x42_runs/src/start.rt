@@ -1,11 +1,7 @@
 // Where the law begins.
-ghost use Rattle.std.specs.Prelude.{true, ◌≡◌};
 ghost use Rattle.msm62x42_runs.specs.Start.{LoadedIsNew};
 
 // Says that the law begins where an accepted load leaves a part.
-pub fn loaded_is_new() -> bool
-    ensures law { LoadedIsNew }
-    ensures answer { result ≡ true }
-{
-    true
-}
+pub fn loaded_is_new()
+    ensures { LoadedIsNew }
+{}

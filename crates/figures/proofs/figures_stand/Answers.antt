@@ -7,9 +7,9 @@ use Rattle.timekeeping.specs.Seconds.{first_seconds}
 use Rattle.figures.proofs.HeldOver.{held_two_on}
 use Rattle.figures.proofs.figures_stand.Goals as goal
 
-pub returns-clause-law : goal.returns-clause-law
+pub returns : goal.returns
 unfolding date_in_year month_lengths place start row first_seconds
-returns-clause-law c =
+returns c =
     record {
       trims = record { trim_07 = refl; trim_7E = refl; trim_3F = refl; trim_42 = refl; trim_00 = refl; trim_01 = refl; trim_40 = refl; trim_41 = refl };
       calendars = record { new_century = refl; its_cells = refl; cycle_end = λ weekday. refl };

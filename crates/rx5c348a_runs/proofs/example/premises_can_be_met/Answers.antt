@@ -1,5 +1,5 @@
 use Rattle.rx5c348a_runs.proofs.Examples.{premises_can_be_met}
 use Rattle.rx5c348a_runs.proofs.example.premises_can_be_met.Goals as goal
 
-pub returns-clause-law : goal.returns-clause-law
-returns-clause-law c = premises_can_be_met
+pub returns : goal.returns
+returns c = premises_can_be_met

@@ -1,5 +1,5 @@
 use Rattle.rx5c348a_runs.proofs.Runs.{loaded_is_new}
 use Rattle.rx5c348a_runs.proofs.start.loaded_is_new.Goals as goal
 
-pub returns-clause-law : goal.returns-clause-law
-returns-clause-law c = loaded_is_new
+pub returns : goal.returns
+returns c = loaded_is_new
