@@ -60,7 +60,7 @@ fn run_a_week(rt: &impl Abort, part: &mut Rx5c348a, preset: u32, days: u8) -> Re
         run(part, 30 * SECOND)?;
         run(part, 30 * SECOND)?;
         let flags = flags_at(minute % 1_440 == preset, days, minute / 1_440);
-        assert_eq!(rt; part.registers.read(0xF), flags);
+        expect_stands(rt, part, 0xF, flags);
         if flags != 0 {
             write_register(part, 0xF, 0)?;
         }
@@ -101,69 +101,92 @@ fn part_before_the_alarm() -> Result<Rx5c348a, Fail> {
     Ok(part)
 }
 
+// So many pulses, and the SO and /INTR after them.
+fn expect_after(
+    rt: &impl Abort,
+    part: &mut Rx5c348a,
+    pulses: u64,
+    answer: (u8, u8),
+) -> Result<(), Fail> {
+    run(part, pulses)?;
+    expect_pins(rt, part, 0, answer)
+}
+
+// So many pulses, and Fh after them.
+fn flags_after(rt: &impl Abort, part: &mut Rx5c348a, pulses: u64, flags: u8) -> Result<(), Fail> {
+    run(part, pulses)?;
+    expect_register(rt, part, 0xF, flags)
+}
+
+// A byte written to Fh, and the SO and /INTR after it.
+fn flags_written(
+    rt: &impl Abort,
+    part: &mut Rx5c348a,
+    byte: u8,
+    answer: (u8, u8),
+) -> Result<(), Fail> {
+    write_register(part, 0xF, byte)?;
+    expect_pins(rt, part, 0, answer)
+}
+
 // The flags come with the pulse that begins the minute, and stay.
 #[test]
 fn an_alarm_comes_with_the_pulse(rt: HostRuntime) -> Result<(), Fail> {
     let mut part = part_before_the_alarm()?;
-    run(&mut part, SECOND - 1)?;
-    assert_eq!(rt; drive(&mut part, 0)?, (OFF, 1));
-    run(&mut part, 1)?;
-    assert_eq!(rt; drive(&mut part, 0)?, (OFF, 0));
-    assert_eq!(rt; read_register(&rt, &mut part, 0xF)?, WAFG + DAFG);
-    run(&mut part, SECOND)?;
-    assert_eq!(rt; drive(&mut part, 0)?, (OFF, 0));
+    expect_after(&rt, &mut part, SECOND - 1, (OFF, 1))?;
+    expect_after(&rt, &mut part, 1, (OFF, 0))?;
+    flags_after(&rt, &mut part, SECOND, WAFG + DAFG)?;
     // cleared, they stay down for the rest of the minute
-    write_register(&mut part, 0xF, WAFG)?;
-    assert_eq!(rt; drive(&mut part, 0)?, (OFF, 0));
-    write_register(&mut part, 0xF, DAFG)?;
-    assert_eq!(rt; drive(&mut part, 0)?, (OFF, 1));
-    run(&mut part, 30 * SECOND)?;
-    assert_eq!(rt; read_register(&rt, &mut part, 0xF)?, 0);
-    Ok(())
+    flags_written(&rt, &mut part, WAFG, (OFF, 0))?;
+    flags_written(&rt, &mut part, DAFG, (OFF, 1))?;
+    flags_after(&rt, &mut part, 30 * SECOND, 0)
+}
+
+// Eh, and the flags that then come up.
+const ENABLES: [(u8, u8); 4] = [(0x20, 0), (0x60, DAFG), (0xA0, WAFG), (0xE0, WAFG + DAFG)];
+
+fn rings_by(rt: &impl Abort, control: u8, flags: u8) -> Result<(), Fail> {
+    let mut part = part_before_the_alarm()?;
+    write_register(&mut part, 0xE, control)?;
+    run(&mut part, SECOND)?;
+    expect_register(rt, &mut part, 0xF, flags)
 }
 
 // An alarm rings once enabled, by its own enable bit.
 #[test]
 fn each_alarm_has_its_enable_bit(rt: HostRuntime) -> Result<(), Fail> {
-    for (control, flags) in [(0x20, 0), (0x60, DAFG), (0xA0, WAFG), (0xE0, WAFG + DAFG)] {
-        let mut part = part_before_the_alarm()?;
-        write_register(&mut part, 0xE, control)?;
-        run(&mut part, SECOND)?;
-        assert_eq!(rt; read_register(&rt, &mut part, 0xF)?, flags);
+    for (control, flags) in ENABLES {
+        rings_by(&rt, control, flags)?;
     }
     Ok(())
+}
+
+// Held before the alarm until its second waits.
+fn part_held_over_the_alarm() -> Result<Rx5c348a, Fail> {
+    let mut part = part_before_the_alarm()?;
+    run(&mut part, SECOND - 1)?;
+    raise_ce(&mut part)?;
+    run(&mut part, 2 * SECOND)?;
+    Ok(part)
 }
 
 // The boundary waits while CE is high: the call that lowers CE applies it, rings, and answers /INTR low.
 #[test]
 fn an_alarm_rings_at_release(rt: HostRuntime) -> Result<(), Fail> {
-    let mut part = part_before_the_alarm()?;
-    run(&mut part, SECOND - 1)?;
-    raise_ce(&mut part)?;
-    run(&mut part, 2 * SECOND)?;
-    assert_eq!(rt; time_of(&part)?, on_friday([0x59, 0x59, 0x13]));
-    assert_eq!(rt; drive(&mut part, CE)?, (OFF, 1));
-    assert_eq!(rt; lower_ce(&mut part)?, (OFF, 0));
-    assert_eq!(rt; time_of(&part)?, on_friday([0x00, 0x00, 0x14]));
-    assert_eq!(rt; read_register(&rt, &mut part, 0xF)?, WAFG + DAFG);
-    Ok(())
+    let mut part = part_held_over_the_alarm()?;
+    expect_time(&rt, &part, on_friday([0x59, 0x59, 0x13]))?;
+    expect_pins(&rt, &mut part, CE, (OFF, 1))?;
+    expect_pins(&rt, &mut part, 0, (OFF, 0))?;
+    expect_time(&rt, &part, on_friday([0x00, 0x00, 0x14]))?;
+    expect_register(&rt, &mut part, 0xF, WAFG + DAFG)
 }
 
-// Another second that waited rings nothing, and neither does a release that nothing waited for.
-#[test]
-fn a_release_within_the_minute_rings_nothing(rt: HostRuntime) -> Result<(), Fail> {
-    let mut part = part_at(50_398, TWENTY_FOUR)?;
-    set_alarms(&mut part, TWENTY_FOUR, 0x00, 0x14, 0x20)?;
-    raise_ce(&mut part)?;
-    run(&mut part, 2 * SECOND)?;
-    assert_eq!(rt; lower_ce(&mut part)?, (OFF, 1));
-    assert_eq!(rt; time_of(&part)?, on_friday([0x59, 0x59, 0x13]));
-    run(&mut part, SECOND)?;
-    write_register(&mut part, 0xF, 0)?;
-    assert_eq!(rt; time_of(&part)?, on_friday([0x00, 0x00, 0x14]));
-    raise_ce(&mut part)?;
-    assert_eq!(rt; lower_ce(&mut part)?, (OFF, 1));
-    Ok(())
+// Up to the last pulse but one of a day, from its first half minute on, 32 seconds in a call.
+fn run_out_the_day(part: &mut Rx5c348a) -> Result<(), Fail> {
+    for _ in 0..2_699u32 {
+        run(part, 1_048_576)?;
+    }
+    run(part, 2 * SECOND - 1)
 }
 
 // The alarm's time is loaded, or the alarm is set for the time that is shown: no flag until it comes round again.
@@ -171,48 +194,11 @@ fn a_release_within_the_minute_rings_nothing(rt: HostRuntime) -> Result<(), Fail
 fn a_load_or_an_enable_rings_nothing(rt: HostRuntime) -> Result<(), Fail> {
     let mut part = part_at(50_400, TWENTY_FOUR)?;
     set_alarms(&mut part, TWENTY_FOUR, 0x00, 0x14, 0x7F)?;
-    assert_eq!(rt; drive(&mut part, 0)?, (OFF, 1));
-    run(&mut part, 30 * SECOND)?;
-    assert_eq!(rt; read_register(&rt, &mut part, 0xF)?, 0);
-    // up to the last pulse of a day, 32 seconds in a call
-    for _ in 0..2_699u32 {
-        run(&mut part, 1_048_576)?;
-    }
-    run(&mut part, 2 * SECOND - 1)?;
-    assert_eq!(rt; read_register(&rt, &mut part, 0xF)?, 0);
-    run(&mut part, 1)?;
-    assert_eq!(rt; read_register(&rt, &mut part, 0xF)?, WAFG + DAFG);
-    Ok(())
-}
-
-// The alarm's time is written, and runs on.
-#[test]
-fn a_written_time_rings_nothing(rt: HostRuntime) -> Result<(), Fail> {
-    let mut part = part_at(0, TWENTY_FOUR)?;
-    set_alarms(&mut part, TWENTY_FOUR, 0x00, 0x14, 0x20)?;
-    write_burst(&mut part, 0, &on_friday([0x00, 0x00, 0x14]))?;
-    assert_eq!(rt; drive(&mut part, 0)?, (OFF, 1));
-    run(&mut part, 30 * SECOND)?;
-    assert_eq!(rt; time_of(&part)?, on_friday([0x30, 0x00, 0x14]));
-    assert_eq!(rt; read_register(&rt, &mut part, 0xF)?, 0);
-    Ok(())
-}
-
-// Cells that are no date raise no flag, though minute and hour agree: released, and at release.
-#[test]
-fn no_moment_rings_nothing(rt: HostRuntime) -> Result<(), Fail> {
-    let mut part = part_at(50_400, TWENTY_FOUR)?;
-    set_alarms(&mut part, TWENTY_FOUR, 0x00, 0x14, 0x20)?;
-    write_register(&mut part, 4, 0x32)?;
-    run(&mut part, 3 * SECOND)?;
-    assert_eq!(rt; drive(&mut part, 0)?, (OFF, 1));
-    raise_ce(&mut part)?;
-    run(&mut part, SECOND)?;
-    assert!(rt; part.registers.core.boundary_waits());
-    assert_eq!(rt; lower_ce(&mut part)?, (OFF, 1));
-    assert!(rt; !part.registers.core.boundary_waits());
-    assert_eq!(rt; time_of(&part)?, [0x00, 0x00, 0x14, 0x05, 0x32, 0x87, 0x26]);
-    Ok(())
+    expect_pins(&rt, &mut part, 0, (OFF, 1))?;
+    flags_after(&rt, &mut part, 30 * SECOND, 0)?;
+    run_out_the_day(&mut part)?;
+    flags_after(&rt, &mut part, 0, 0)?;
+    flags_after(&rt, &mut part, 1, WAFG + DAFG)
 }
 
 // After power-on all alarm registers agree with the cells, which are no date in 12-hour mode.
@@ -221,35 +207,43 @@ fn power_on_rings_nothing(rt: HostRuntime) -> Result<(), Fail> {
     let mut part = fresh_part();
     set_alarms(&mut part, TWELVE, 0, 0, 0x7F)?;
     run(&mut part, SECOND)?;
-    assert_eq!(rt; read_register(&rt, &mut part, 0xF)?, 0x10);
-    Ok(())
+    expect_register(&rt, &mut part, 0xF, 0x10)
+}
+
+// 12-hour mode, 2 in the afternoon: what stands in the alarms' hours, and the flags that then come up.
+const HOURS: [(u8, u8); 3] = [(0x14, 0), (0x02, 0), (0x22, WAFG + DAFG)];
+
+fn rings_at(rt: &impl Abort, hour: u8, flags: u8) -> Result<(), Fail> {
+    let mut part = part_at(50_399, TWELVE)?;
+    set_alarms(&mut part, TWELVE, 0x00, hour, 0x20)?;
+    run(&mut part, SECOND)?;
+    expect_register(rt, &mut part, 0xF, flags)
 }
 
 // The hour register is compared as it stands: 14 is no hour of 12-hour mode, and 22h is 2 in the afternoon.
 #[test]
 fn hours_are_compared_as_they_stand(rt: HostRuntime) -> Result<(), Fail> {
-    for (hour, flags) in [(0x14, 0), (0x02, 0), (0x22, WAFG + DAFG)] {
-        let mut part = part_at(50_399, TWELVE)?;
-        set_alarms(&mut part, TWELVE, 0x00, hour, 0x20)?;
-        run(&mut part, SECOND)?;
-        assert_eq!(rt; read_register(&rt, &mut part, 0xF)?, flags);
+    for (hour, flags) in HOURS {
+        rings_at(&rt, hour, flags)?;
     }
     Ok(())
 }
 
-// Set anew as a host does it: disabled, written, enabled. It rings at the new time and not at the old one.
+// Disabled, set for a minute later, and Alarm_W enabled, as a host does it.
+fn set_anew(part: &mut Rx5c348a) -> Result<(), Fail> {
+    write_register(part, 0xE, 0x20)?;
+    write_burst(part, 8, &[0x01, 0x14, 0x20])?;
+    write_register(part, 0xE, 0xA0)
+}
+
+// It rings at the new time and not at the old one.
 #[test]
 fn an_alarm_is_set_anew(rt: HostRuntime) -> Result<(), Fail> {
     let mut part = part_before_the_alarm()?;
-    write_register(&mut part, 0xE, 0x20)?;
-    write_burst(&mut part, 8, &[0x01, 0x14, 0x20])?;
-    write_register(&mut part, 0xE, 0xA0)?;
-    run(&mut part, SECOND)?;
-    assert_eq!(rt; time_of(&part)?, on_friday([0x00, 0x00, 0x14]));
-    assert_eq!(rt; read_register(&rt, &mut part, 0xF)?, 0);
+    set_anew(&mut part)?;
+    flags_after(&rt, &mut part, SECOND, 0)?;
+    expect_time(&rt, &part, on_friday([0x00, 0x00, 0x14]))?;
     run(&mut part, 30 * SECOND)?;
-    run(&mut part, 30 * SECOND)?;
-    assert_eq!(rt; time_of(&part)?, on_friday([0x00, 0x01, 0x14]));
-    assert_eq!(rt; read_register(&rt, &mut part, 0xF)?, WAFG);
-    Ok(())
+    flags_after(&rt, &mut part, 30 * SECOND, WAFG)?;
+    expect_time(&rt, &part, on_friday([0x00, 0x01, 0x14]))
 }

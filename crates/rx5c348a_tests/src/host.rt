@@ -104,6 +104,20 @@ pub(crate) fn header(part: &mut Rx5c348a, address: u8, format: u8) -> Result<(),
     byte_in(part, 16 * (address % 16) + format % 16)
 }
 
+// CE rises, and a header is sent.
+pub(crate) fn open(part: &mut Rx5c348a, address: u8, format: u8) -> Result<(), Fail> {
+    raise_ce(part)?;
+    header(part, address, format)
+}
+
+// So many bits of 1.
+pub(crate) fn ones(part: &mut Rx5c348a, count: u8) -> Result<(), Fail> {
+    for _ in 0..count {
+        clock(part, 1)?;
+    }
+    Ok(())
+}
+
 // A byte from SO, highest bit first.
 pub(crate) fn byte_out(rt: &impl Abort, part: &mut Rx5c348a) -> Result<u8, Fail> {
     let mut byte = 0u8;
@@ -117,8 +131,7 @@ pub(crate) fn byte_out(rt: &impl Abort, part: &mut Rx5c348a) -> Result<u8, Fail>
 
 // One register written with CE high for it alone.
 pub(crate) fn write_register(part: &mut Rx5c348a, address: u8, byte: u8) -> Result<(), Fail> {
-    raise_ce(part)?;
-    header(part, address, SINGLE_WRITE)?;
+    open(part, address, SINGLE_WRITE)?;
     byte_in(part, byte)?;
     lower_ce(part)?;
     Ok(())
@@ -126,8 +139,7 @@ pub(crate) fn write_register(part: &mut Rx5c348a, address: u8, byte: u8) -> Resu
 
 // One register read with CE high for it alone.
 pub(crate) fn read_register(rt: &impl Abort, part: &mut Rx5c348a, address: u8) -> Result<u8, Fail> {
-    raise_ce(part)?;
-    header(part, address, SINGLE_READ)?;
+    open(part, address, SINGLE_READ)?;
     let byte = byte_out(rt, part)?;
     lower_ce(part)?;
     Ok(byte)
@@ -135,8 +147,7 @@ pub(crate) fn read_register(rt: &impl Abort, part: &mut Rx5c348a, address: u8) -
 
 // A burst write with CE high for it alone.
 pub(crate) fn write_burst(part: &mut Rx5c348a, address: u8, bytes: &[u8]) -> Result<(), Fail> {
-    raise_ce(part)?;
-    header(part, address, BURST_WRITE)?;
+    open(part, address, BURST_WRITE)?;
     for byte in bytes {
         byte_in(part, *byte)?;
     }
@@ -205,4 +216,68 @@ pub(crate) fn wires_of(part: &Rx5c348a) -> Wires {
 // What a refused call could have changed, but for the bits of a byte under way.
 pub(crate) fn all_of(part: &Rx5c348a) -> Result<([u8; 16], Running, Wires), Fail> {
     Ok((registers_of(part)?, running_of(part), wires_of(part)))
+}
+
+// What each of these should be. Apart, so that a test is a short row of calls: each test is proved to be safe, and a long one takes long.
+
+// New levels, and the SO and /INTR that they answer.
+pub(crate) fn expect_pins(
+    rt: &impl Abort,
+    part: &mut Rx5c348a,
+    levels: u64,
+    answer: (u8, u8),
+) -> Result<(), Fail> {
+    assert_eq!(rt; drive(part, levels)?, answer);
+    Ok(())
+}
+
+pub(crate) fn expect_byte(rt: &impl Abort, part: &mut Rx5c348a, byte: u8) -> Result<(), Fail> {
+    assert_eq!(rt; byte_out(rt, part)?, byte);
+    Ok(())
+}
+
+pub(crate) fn expect_register(
+    rt: &impl Abort,
+    part: &mut Rx5c348a,
+    address: u8,
+    byte: u8,
+) -> Result<(), Fail> {
+    assert_eq!(rt; read_register(rt, part, address)?, byte);
+    Ok(())
+}
+
+// A register as it stands, not read by the wires.
+pub(crate) fn expect_stands(rt: &impl Abort, part: &Rx5c348a, address: u8, byte: u8) {
+    assert_eq!(rt; part.registers.read(address), byte);
+}
+
+pub(crate) fn expect_registers(
+    rt: &impl Abort,
+    part: &Rx5c348a,
+    registers: [u8; 16],
+) -> Result<(), Fail> {
+    assert_eq!(rt; registers_of(part)?, registers);
+    Ok(())
+}
+
+pub(crate) fn expect_time(rt: &impl Abort, part: &Rx5c348a, time: [u8; 7]) -> Result<(), Fail> {
+    assert_eq!(rt; time_of(part)?, time);
+    Ok(())
+}
+
+pub(crate) fn expect_running(rt: &impl Abort, part: &Rx5c348a, running: Running) {
+    assert_eq!(rt; running_of(part), running);
+}
+
+pub(crate) fn expect_wires(rt: &impl Abort, part: &Rx5c348a, wires: Wires) {
+    assert_eq!(rt; wires_of(part), wires);
+}
+
+pub(crate) fn expect_all(
+    rt: &impl Abort,
+    part: &Rx5c348a,
+    all: ([u8; 16], Running, Wires),
+) -> Result<(), Fail> {
+    assert_eq!(rt; all_of(part)?, all);
+    Ok(())
 }

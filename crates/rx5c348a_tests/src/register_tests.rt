@@ -16,28 +16,12 @@ fn unused_bits_read_0(rt: HostRuntime) -> Result<(), Fail> {
     write_burst(&mut part, 0, &[0xFF; 16])?;
     let mut wanted = USED_BITS;
     wanted[15] = 0xBC;
-    assert_eq!(rt; registers_of(&part)?, wanted);
+    expect_registers(&rt, &part, wanted)?;
     write_burst(&mut part, 0, &[0; 16])?;
-    assert_eq!(rt; registers_of(&part)?, [0; 16]);
+    expect_registers(&rt, &part, [0; 16])?;
     write_burst(&mut part, 0, &[0xFF; 16])?;
     wanted[15] = 0xAC;
-    assert_eq!(rt; registers_of(&part)?, wanted);
-    Ok(())
-}
-
-// Every byte in every register but Fh; the other registers stay.
-#[test]
-fn every_byte_in_every_register(rt: HostRuntime) -> Result<(), Fail> {
-    for address in 0..15u8 {
-        let mut part = part_at(50_399, TWENTY_FOUR)?;
-        let mut wanted = registers_of(&part)?;
-        for byte in 0..256u32 {
-            write_register(&mut part, address, byte as u8)?;
-            wanted[address as usize] = byte as u8 & USED_BITS[address as usize];
-            assert_eq!(rt; registers_of(&part)?, wanted);
-        }
-    }
-    Ok(())
+    expect_registers(&rt, &part, wanted)
 }
 
 // Set after power-on, with both alarms at 14:00, and a second later rung: XSTP, WAFG and DAFG are set.
@@ -47,103 +31,92 @@ fn part_with_flags(rt: &impl Abort) -> Result<Rx5c348a, Fail> {
     write_burst(&mut part, 0, &on_friday([0x59, 0x59, 0x13]))?;
     write_burst(&mut part, 8, &[0x00, 0x14, 0x20, 0x00, 0x14])?;
     run(&mut part, SECOND)?;
-    assert_eq!(rt; read_register(rt, &mut part, 0xF)?, 0x13);
+    expect_register(rt, &mut part, 0xF, 0x13)?;
     Ok(part)
 }
 
-// A 0 takes XSTP, WAFG and DAFG down, a 1 does not; /INTR is low while an alarm's flag is up. VDET reads 0.
-#[test]
-fn every_byte_in_the_flags(rt: HostRuntime) -> Result<(), Fail> {
-    for byte in 0..256u32 {
-        let byte = byte as u8;
-        let mut part = part_with_flags(&rt)?;
-        write_register(&mut part, 0xF, byte)?;
-        assert_eq!(rt; read_register(&rt, &mut part, 0xF)?, byte & 0xBF);
-        assert_eq!(rt;
-            u8::from(part.answer().intr),
-            if byte & 3 == 0 { 1 } else { 0 }
-        );
-        let mut clear = part_at(0, TWENTY_FOUR)?;
-        write_register(&mut clear, 0xF, byte)?;
-        assert_eq!(rt; read_register(&rt, &mut clear, 0xF)?, byte & 0xAC);
-        assert_eq!(rt; u8::from(clear.answer().intr), 1);
-    }
-    Ok(())
+// CE rises, and a boundary waits.
+fn hold_over_a_boundary(part: &mut Rx5c348a) -> Result<(), Fail> {
+    raise_ce(part)?;
+    run(part, 40_000)
 }
 
-// A 0 written to an enable bit takes that alarm's flag down; enabling it again does not bring it back.
-#[test]
-fn disabling_clears_the_flag(rt: HostRuntime) -> Result<(), Fail> {
-    for (control, flags) in [(0xE0, 0x13), (0xA0, 0x12), (0x60, 0x11), (0x20, 0x10)] {
-        let mut part = part_with_flags(&rt)?;
-        write_register(&mut part, 0xE, control)?;
-        assert_eq!(rt; read_register(&rt, &mut part, 0xF)?, flags);
-        write_register(&mut part, 0xE, 0xE0)?;
-        assert_eq!(rt; read_register(&rt, &mut part, 0xF)?, flags);
-    }
-    Ok(())
+// A single write of which CE neither rises nor falls.
+fn write_held(part: &mut Rx5c348a, address: u8, byte: u8) -> Result<(), Fail> {
+    header(part, address, SINGLE_WRITE)?;
+    byte_in(part, byte)
+}
+
+// So many pulses, and the time after them.
+fn time_after(
+    rt: &impl Abort,
+    part: &mut Rx5c348a,
+    pulses: u64,
+    time: [u8; 3],
+) -> Result<(), Fail> {
+    run(part, pulses)?;
+    expect_time(rt, part, on_friday(time))
 }
 
 // Writing register 0 drops the boundary that waits and begins a second; a write of another cell does neither.
 #[test]
 fn register_0_begins_a_second(rt: HostRuntime) -> Result<(), Fail> {
     let mut part = part_at(50_399, TWENTY_FOUR)?;
-    raise_ce(&mut part)?;
-    run(&mut part, 40_000)?;
-    header(&mut part, 1, SINGLE_WRITE)?;
-    byte_in(&mut part, 0x58)?;
-    assert_eq!(rt; running_of(&part), (7_232, 32_768, true, true));
-    header(&mut part, 0, SINGLE_WRITE)?;
-    byte_in(&mut part, 0x30)?;
-    assert_eq!(rt; running_of(&part), (0, 32_768, true, false));
+    hold_over_a_boundary(&mut part)?;
+    write_held(&mut part, 1, 0x58)?;
+    expect_running(&rt, &part, (7_232, 32_768, true, true));
+    write_held(&mut part, 0, 0x30)?;
+    expect_running(&rt, &part, (0, 32_768, true, false));
     lower_ce(&mut part)?;
-    assert_eq!(rt; time_of(&part)?, on_friday([0x30, 0x58, 0x13]));
-    run(&mut part, SECOND - 1)?;
-    assert_eq!(rt; time_of(&part)?, on_friday([0x30, 0x58, 0x13]));
-    run(&mut part, 1)?;
-    assert_eq!(rt; time_of(&part)?, on_friday([0x31, 0x58, 0x13]));
-    Ok(())
+    time_after(&rt, &mut part, SECOND - 1, [0x30, 0x58, 0x13])?;
+    time_after(&rt, &mut part, 1, [0x31, 0x58, 0x13])
 }
 
 // Cells other than 0 written while a boundary waits: release applies it to the new time.
 #[test]
 fn a_waiting_second_meets_the_new_time(rt: HostRuntime) -> Result<(), Fail> {
     let mut part = part_at(50_399, TWENTY_FOUR)?;
-    raise_ce(&mut part)?;
-    run(&mut part, 40_000)?;
+    hold_over_a_boundary(&mut part)?;
     header(&mut part, 2, BURST_WRITE)?;
     for byte in [0x23, 0x06, 0x31, 0x12, 0x99] {
         byte_in(&mut part, byte)?;
     }
     lower_ce(&mut part)?;
-    assert_eq!(rt; time_of(&part)?, [0, 0, 0, 0, 0x01, 0x81, 0x00]);
-    assert_eq!(rt; running_of(&part), (7_232, 32_768, false, false));
+    expect_time(&rt, &part, [0, 0, 0, 0, 0x01, 0x81, 0x00])?;
+    expect_running(&rt, &part, (7_232, 32_768, false, false));
+    Ok(())
+}
+
+// Seconds and trim, and the length of the second that a write of register 0 begins.
+const LENGTHS: [(u8, u8, u32); 10] = [
+    (0x00, 0x07, 32_780),
+    (0x20, 0x7E, 32_764),
+    (0x40, 0x3F, 32_892),
+    (0x40, 0x42, 32_644),
+    (0x00, 0x01, 32_768),
+    (0x00, 0x41, 32_768),
+    // a crystal 0.8 Hz fast, and one 5.83 Hz slow
+    (0x20, 0x09, 32_784),
+    (0x40, 0x46, 32_652),
+    (0x01, 0x07, 32_768),
+    // no such seconds
+    (0x60, 0x07, 32_768),
+];
+
+fn begins(rt: &impl Abort, second: u8, trim: u8, length: u32) -> Result<(), Fail> {
+    let mut part = part_at(50_399, TWENTY_FOUR)?;
+    write_register(&mut part, 7, trim)?;
+    expect_running(rt, &part, (0, 32_768, false, false));
+    write_register(&mut part, 0, second)?;
+    expect_running(rt, &part, (0, length, false, false));
     Ok(())
 }
 
 // The second that register 0 begins has its length by the trim and the time of that instant.
 #[test]
 fn the_length_of_a_begun_second(rt: HostRuntime) -> Result<(), Fail> {
-    let rows = [
-        (0x00, 0x07, 32_780),
-        (0x20, 0x7E, 32_764),
-        (0x40, 0x3F, 32_892),
-        (0x40, 0x42, 32_644),
-        (0x00, 0x01, 32_768),
-        (0x00, 0x41, 32_768),
-        // a crystal 0.8 Hz fast, and one 5.83 Hz slow
-        (0x20, 0x09, 32_784),
-        (0x40, 0x46, 32_652),
-        (0x01, 0x07, 32_768),
-        // no such seconds
-        (0x60, 0x07, 32_768),
-    ];
-    for (second, trim, length) in rows {
-        let mut part = part_at(50_399, TWENTY_FOUR)?;
-        write_register(&mut part, 7, trim)?;
-        assert_eq!(rt; running_of(&part), (0, 32_768, false, false));
-        write_register(&mut part, 0, second)?;
-        assert_eq!(rt; running_of(&part), (0, length, false, false));
+    for (second, trim, length) in LENGTHS {
+        begins(&rt, second, trim, length)?;
     }
     Ok(())
 }
@@ -153,114 +126,74 @@ fn the_length_of_a_begun_second(rt: HostRuntime) -> Result<(), Fail> {
 fn power_on_stands_still(rt: HostRuntime) -> Result<(), Fail> {
     let mut part = fresh_part();
     let registers = [0, 0, 0, 0, 0, 0, 0, 0, 0, 0, 0, 0, 0, 0, 0, 0x10];
-    assert_eq!(rt; registers_of(&part)?, registers);
-    assert_eq!(rt; running_of(&part), (0, 32_768, false, false));
-    assert_eq!(rt; wires_of(&part), (false, false, false, OFF, 1));
+    expect_registers(&rt, &part, registers)?;
+    expect_running(&rt, &part, (0, 32_768, false, false));
+    expect_wires(&rt, &part, (false, false, false, OFF, 1));
     run(&mut part, SECOND + 5)?;
-    assert_eq!(rt; registers_of(&part)?, registers);
-    assert_eq!(rt; running_of(&part), (5, 32_768, false, false));
+    expect_registers(&rt, &part, registers)?;
+    expect_running(&rt, &part, (5, 32_768, false, false));
     Ok(())
 }
 
-// A load in the middle of a read, with CE and SCLK high and a boundary waiting: the pins are low, SO is off,
-// and what waited is gone.
-#[test]
-fn load_drops_a_transfer(rt: HostRuntime) -> Result<(), Fail> {
-    let mut part = part_with_flags(&rt)?;
-    raise_ce(&mut part)?;
-    run(&mut part, 40_000)?;
+// A load in the middle of a read, with CE and SCLK high and a boundary waiting.
+fn part_loaded_in_a_read(rt: &impl Abort) -> Result<Rx5c348a, Fail> {
+    let mut part = part_with_flags(rt)?;
+    hold_over_a_boundary(&mut part)?;
     header(&mut part, 6, SINGLE_READ)?;
     clock(&mut part, 0)?;
     clock(&mut part, 0)?;
-    assert_eq!(rt; drive(&mut part, CE + SCLK)?, (1, 0));
+    expect_pins(rt, &mut part, CE + SCLK, (1, 0))?;
     part.load(Setting {
         moment: MIDNIGHT,
         weekday: FRIDAY,
         trim: 7,
         mode: TWELVE,
     })?;
+    Ok(part)
+}
+
+// The pins are low, SO is off, and what waited is gone.
+#[test]
+fn load_drops_a_transfer(rt: HostRuntime) -> Result<(), Fail> {
+    let mut part = part_loaded_in_a_read(&rt)?;
     let loaded = [0, 0, 0x12, 5, 0x17, 0x87, 0x26, 7, 0, 0, 0, 0, 0, 0, 0, 0];
-    assert_eq!(rt; registers_of(&part)?, loaded);
-    assert_eq!(rt; running_of(&part), (0, 32_780, false, false));
-    assert_eq!(rt; wires_of(&part), (false, false, false, OFF, 1));
-    assert_eq!(rt; lower_ce(&mut part)?, (OFF, 1));
-    assert_eq!(rt; registers_of(&part)?, loaded);
+    expect_registers(&rt, &part, loaded)?;
+    expect_running(&rt, &part, (0, 32_780, false, false));
+    expect_wires(&rt, &part, (false, false, false, OFF, 1));
+    expect_pins(&rt, &mut part, 0, (OFF, 1))?;
+    expect_registers(&rt, &part, loaded)?;
     raise_ce(&mut part)?;
     assert!(rt; part.awaits_header());
     Ok(())
 }
 
-fn refuses_to_load(part: &mut Rx5c348a, weekday: u32, trim: u32) -> bool {
-    part.load(Setting {
-        moment: MIDNIGHT,
-        weekday,
-        trim,
-        mode: TWELVE,
-    })
-    .is_err()
-}
-
-// A refused load leaves the transfer under way: the byte goes on.
-#[test]
-fn a_refused_load_drops_nothing(rt: HostRuntime) -> Result<(), Fail> {
-    let mut part = part_at(50_399, TWENTY_FOUR)?;
-    raise_ce(&mut part)?;
-    header(&mut part, 2, SINGLE_READ)?;
-    let mut byte = 0u8;
-    for _ in 0..8u8 {
-        let before = all_of(&part)?;
-        assert!(rt; refuses_to_load(&mut part, 7, 0));
-        assert!(rt; refuses_to_load(&mut part, 6, 128));
-        assert_eq!(rt; all_of(&part)?, before);
-        byte = (byte << 1) | clock(&mut part, 0)?.0;
-    }
-    assert_eq!(rt; byte, 0x13);
-    Ok(())
-}
-
-// A halt of an unselected part: XSTP is up, trim, control and the other flags are zero; the time, the alarms' times and the second stay.
-#[test]
-fn halt_with_ce_low(rt: HostRuntime) -> Result<(), Fail> {
-    let mut part = part_with_flags(&rt)?;
+// Trim, control and flags are set, and some pulses of the second are over.
+fn part_before_a_halt(rt: &impl Abort) -> Result<Rx5c348a, Fail> {
+    let mut part = part_with_flags(rt)?;
     write_register(&mut part, 7, 0x2A)?;
     write_register(&mut part, 0xE, 0xF7)?;
     write_register(&mut part, 0xF, 0xAF)?;
     run(&mut part, 5)?;
-    let [a, b, c, d, e, f, g] = on_friday([0x00, 0x00, 0x14]);
-    assert_eq!(rt;
-        registers_of(&part)?,
-        [
-            a, b, c, d, e, f, g, 0x2A, 0x00, 0x14, 0x20, 0x00, 0x14, 0, 0xF7, 0xAF,
-        ]
-    );
-    let running = running_of(&part);
-    halt(&mut part);
-    assert_eq!(rt;
-        registers_of(&part)?,
-        [
-            a, b, c, d, e, f, g, 0, 0x00, 0x14, 0x20, 0x00, 0x14, 0, 0, 0x10,
-        ]
-    );
-    assert_eq!(rt; running_of(&part), running);
-    assert_eq!(rt; u8::from(part.answer().intr), 1);
-    Ok(())
+    Ok(part)
 }
 
-// With CE high a halt does nothing: a read goes on.
+const BEFORE_A_HALT: [u8; 16] = [
+    0x00, 0x00, 0x14, 0x05, 0x17, 0x87, 0x26, 0x2A, 0x00, 0x14, 0x20, 0x00, 0x14, 0, 0xF7, 0xAF,
+];
+
+const HALTED: [u8; 16] = [
+    0x00, 0x00, 0x14, 0x05, 0x17, 0x87, 0x26, 0, 0x00, 0x14, 0x20, 0x00, 0x14, 0, 0, 0x10,
+];
+
+// A halt of an unselected part: XSTP is up, trim, control and the other flags are zero; the time, the alarms' times and the second stay.
 #[test]
-fn halt_with_ce_high(rt: HostRuntime) -> Result<(), Fail> {
-    let mut part = part_with_flags(&rt)?;
-    write_register(&mut part, 0xF, 0x83)?;
-    raise_ce(&mut part)?;
-    header(&mut part, 0xF, SINGLE_READ)?;
-    let mut byte = 0u8;
-    for _ in 0..8u8 {
-        let before = all_of(&part)?;
-        halt(&mut part);
-        assert_eq!(rt; all_of(&part)?, before);
-        byte = (byte << 1) | clock(&mut part, 0)?.0;
-    }
-    assert_eq!(rt; byte, 0x83);
-    assert_eq!(rt; lower_ce(&mut part)?, (OFF, 0));
+fn halt_with_ce_low(rt: HostRuntime) -> Result<(), Fail> {
+    let mut part = part_before_a_halt(&rt)?;
+    let running = running_of(&part);
+    expect_registers(&rt, &part, BEFORE_A_HALT)?;
+    halt(&mut part);
+    expect_registers(&rt, &part, HALTED)?;
+    expect_running(&rt, &part, running);
+    assert_eq!(rt; u8::from(part.answer().intr), 1);
     Ok(())
 }

@@ -12,13 +12,13 @@ fn single_writes(rt: HostRuntime) -> Result<(), Fail> {
         b"4 7575757575646464 6464756475646464 6475757575646464 6464646464757575 0",
         b"2 2222222222222222 2222222222222222 2222222222222222 2222222222222222 2",
     )?;
-    assert_eq!(rt;
-        registers_of(&part)?,
+    expect_registers(
+        &rt,
+        &part,
         [
             0, 0, 0, 5, 0x17, 0x87, 0x26, 0x07, 0, 0, 0, 0, 0, 0, 0x20, 0x28,
-        ]
-    );
-    Ok(())
+        ],
+    )
 }
 
 // Eh, Fh and 0 in one burst.
@@ -31,13 +31,13 @@ fn burst_write(rt: HostRuntime) -> Result<(), Fail> {
         b"4 7575756464646464 7564756464646464 6464756464646464 6475647575646475 0",
         b"2 2222222222222222 2222222222222222 2222222222222222 2222222222222222 2",
     )?;
-    assert_eq!(rt;
-        registers_of(&part)?,
+    expect_registers(
+        &rt,
+        &part,
         [
             0x59, 0, 0x12, 5, 0x17, 0x87, 0x26, 0, 0, 0, 0, 0, 0, 0, 0xA0, 0x20,
-        ]
-    );
-    Ok(())
+        ],
+    )
 }
 
 // A read of Eh, then one of 2: SO is off over the headers, and from each eighth data fall on.
@@ -76,8 +76,7 @@ fn read_change_write(rt: HostRuntime) -> Result<(), Fail> {
         b"4 7575757575756464 6464646464646464 7575757575646464 6464756464646464 0",
         b"2 2222222222222222 0000001100000002 2222222222222222 2222222222222222 2",
     )?;
-    assert_eq!(rt; read_register(&rt, &mut part, 0xF)?, 0x20);
-    Ok(())
+    expect_register(&rt, &mut part, 0xF, 0x20)
 }
 
 // The bytes of a burst written, read back singly and in a burst.
@@ -89,15 +88,13 @@ fn what_is_written_is_read(rt: HostRuntime) -> Result<(), Fail> {
     ];
     let mut part = part_at(0, TWENTY_FOUR)?;
     write_burst(&mut part, 0, &bytes)?;
-    assert_eq!(rt; registers_of(&part)?, bytes);
+    expect_registers(&rt, &part, bytes)?;
     for (address, byte) in (0..16u8).zip(bytes) {
-        assert_eq!(rt; read_register(&rt, &mut part, address)?, byte);
+        expect_register(&rt, &mut part, address, byte)?;
     }
-    raise_ce(&mut part)?;
-    header(&mut part, 0, BURST_READ)?;
+    open(&mut part, 0, BURST_READ)?;
     for byte in bytes {
-        assert_eq!(rt; byte_out(&rt, &mut part)?, byte);
+        expect_byte(&rt, &mut part, byte)?;
     }
-    assert_eq!(rt; lower_ce(&mut part)?, (OFF, 1));
-    Ok(())
+    expect_pins(&rt, &mut part, 0, (OFF, 1))
 }
