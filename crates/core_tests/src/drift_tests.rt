@@ -112,10 +112,15 @@ fn drift_of(run: Run) -> Option<i64> {
     pulses.checked_sub(seconds)
 }
 
-fn calendar_counts(rt: &impl Abort, run: Run) -> Result<(), Fail> {
+// The seconds that a calendar moves in a run.
+fn seconds_of(run: Run) -> Result<u64, Fail> {
     let mut core = core_at(HourMode::TwentyFour, run.value, run.trim)?;
     give(&mut core, run.pulses)?;
-    let seconds = seconds_since(&core, run.value)?;
+    seconds_since(&core, run.value)
+}
+
+fn calendar_counts(rt: &impl Abort, run: Run) -> Result<(), Fail> {
+    let seconds = seconds_of(run)?;
     assert_eq!(rt; i64::try_from(seconds)?, run.n);
     assert_eq!(rt; whole_seconds(run.a, run.value, run.pulses), seconds);
     assert_eq!(rt; drift_of(run), Some(run.drift));
