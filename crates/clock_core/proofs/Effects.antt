@@ -1,10 +1,10 @@
 -- What pulses leave as it was: hold and trim, the map of a held core, and the length of its seconds where there is no trim.
 use Rattle.std.proofs.Common.{◌≡◌, ℕ, zero, suc, ◌+◌, ◌%◌, Bool, true, false, cond, eqb, ltb, Some, None, Ok, Err, Option, refl, ap, ◌∙◌, arith}
-use Rattle.refusals.specs.declared.Refusal.TheVariants.{TooManyPulses}
+use Rattle.refusals.specs.declared.Refusal.TheVariants.{TooManyPulses, AlreadyHeld, NotHeld}
 use Rattle.std.specs.Option.{option_map}
 use Rattle.register_map.specs.Chart.{Chart, shown_by, advanced}
 use Rattle.clock_core.specs.Seconds.{second_pulses}
-use Rattle.clock_core.specs.Core.{CoreState, Accepted, with_map, at_position, waiting, begin_second, one_pulse, many_pulses, give_pulses, most_pulses, counted_value}
+use Rattle.clock_core.specs.Core.{CoreState, Accepted, with_map, at_position, waiting, begin_second, one_pulse, many_pulses, give_pulses, most_pulses, counted_value, hold_core, released, release_core}
 
 -- without a trim a second is plain, whatever it begins at
 plain_length : (value : Option ℕ) → second_pulses 0 value ≡ 32768
@@ -80,3 +80,18 @@ given_plain c n s p = by (ltb most_pulses n)
     by : (refused : Bool) → IsPlain (cond {A = Accepted × CoreState} refused (Err TooManyPulses, s) (Ok tt, many_pulses c n s)).1
     by true = p
     by false = pulses_plain c n s p
+
+-- so it does held and released
+pub hold_plain : (s : CoreState) → IsPlain s → IsPlain (hold_core s).1
+hold_plain s p = by s.held
+  where
+    by : (held : Bool) → IsPlain (cond {A = Accepted × CoreState} held (Err AlreadyHeld, s) (Ok tt, record { map = s.map; trim = s.trim; position = s.position; second = s.second; held = true; waits = s.waits })).1
+    by true = p
+    by false = record { untrimmed = p.untrimmed; second = p.second }
+
+pub release_plain : (c : Chart) (s : CoreState) → IsPlain s → IsPlain (release_core c s).1
+release_plain c s p = by s.held
+  where
+    by : (held : Bool) → IsPlain (cond {A = Accepted × CoreState} held (Ok tt, released c s) (Err NotHeld, s)).1
+    by true = record { untrimmed = p.untrimmed; second = p.second }
+    by false = p

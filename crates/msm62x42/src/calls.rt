@@ -79,7 +79,7 @@ impl Msm62x42 {
     pub fn deselect(&mut self)
         ensures { seen self.new ≡ deselected (seen self.old) }
     {
-        let _ = self.core.release();
+        self.lower_hold();
     }
 
     /// Registers 0 to Fh.

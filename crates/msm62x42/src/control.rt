@@ -1,5 +1,7 @@
 // Registers Dh to Fh: HOLD and BUSY, nothing, and the hour mode.
 ghost use Rattle.std.specs.Prelude.{◌≡◌, ◌-◌, ◌≤◌, slice_index};
+ghost use Rattle.clock_core.specs.Core.{hold_core, release_core};
+ghost use Rattle.digit_map.specs.Cells.{digit_chart};
 ghost use Rattle.msm62x42.specs.Part.{seen, control_registers, control_written};
 
 use crate::part::Msm62x42;
@@ -18,6 +20,20 @@ const BUSY: u8 = 2;
 const TWENTY_FOUR_HOURS: u8 = 4;
 
 impl Msm62x42 {
+    // Held already, nothing changes.
+    pub(crate) fn raise_hold(&mut self)
+        ensures { seen self.new ≡ (hold_core (seen self.old)).1 }
+    {
+        let _ = self.core.hold();
+    }
+
+    // Released already, nothing changes.
+    pub(crate) fn lower_hold(&mut self)
+        ensures { seen self.new ≡ (release_core digit_chart (seen self.old)).1 }
+    {
+        let _ = self.core.release();
+    }
+
     // Reads Dh, Eh or Fh.
     pub(crate) fn control(&self, address: usize) -> u8
         requires { 13 ≤ address }
@@ -36,11 +52,11 @@ impl Msm62x42 {
     {
         match address {
             HOLD_REGISTER => {
-                let _ = if data % 2 == HOLD {
-                    self.core.hold()
+                if data % 2 == HOLD {
+                    self.raise_hold();
                 } else {
-                    self.core.release()
-                };
+                    self.lower_hold();
+                }
             }
             MODE_REGISTER => {
                 self.core

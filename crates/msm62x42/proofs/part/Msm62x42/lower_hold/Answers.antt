@@ -1,0 +1,13 @@
+use Rattle.std.proofs.Common.{sym, ap, subst}
+use Rattle.clock_core.proofs.Effects.{IsPlain, release_plain}
+use Rattle.digit_map.specs.Cells.{digit_chart}
+use Rattle.msm62x42.specs.Part.{seen}
+use Rattle.msm62x42.proofs.part.Msm62x42.lower_hold.Goals as goal
+
+-- no trim comes by it
+pub invariant_of-self : goal.invariant_of-self
+invariant_of-self c =
+    let before = c.args.self.now in
+    let plain =
+    subst IsPlain (sym (ap (λ r. r.1) c.release.ensures)) (release_plain digit_chart (seen before) (record { untrimmed = before.untrimmed; second = before.plain_second })) in
+    record { untrimmed = plain.untrimmed; plain_second = plain.second }
