@@ -1,8 +1,9 @@
 -- A tape is played record by record: each leaves fewer bytes, and what is left to play gives the whole.
-use Rattle.std.proofs.Common.{◌≡◌, ℕ, zero, suc, ◌+◌, ◌-◌, ◌<◌, ◌≤◌, List, [], ◌∷◌, ◌++◌, length, take, drop, IfOk, Ok, Err, Result, vec_items, vec_capacity, sym, refl, ap, ◌∙◌, arith}
+use Rattle.std.proofs.Common.{◌≡◌, ℕ, zero, suc, ◌+◌, ◌-◌, ◌<◌, ◌≤◌, Bool, true, false, eqb, List, [], ◌∷◌, ◌++◌, length, take, drop, IfOk, Ok, Err, Result, vec_items, vec_capacity, sym, refl, ap, ◌∙◌, arith}
 use Rattle.std.specs.Prelude.{Vec}
 use Rattle.std.specs.declared.alloc.Global.{Global}
 use Rattle.std.proofs.lemmas.List.{append-nil}
+use Rattle.std.proofs.lemmas.Bool.{eqb-true, eqb-false}
 use Rattle.std.proofs.Math.Seq.{take-append_seam}
 use Rattle.refusals.specs.declared.Refusal.{Refusal}
 use Rattle.rx5c348a.specs.Part.{PartState, load_part, pulse_part}
@@ -153,3 +154,10 @@ module _ (bytes rest : List ℕ) (r : Record) (part after : PartState) (line the
   pub record_handed_on : ◌≡◌ {A = RecordRead} (Ok (r, rest)) (read_record bytes) → ◌≡◌ {A = Result ℕ Refusal × PartState × List ℕ} (answer, after, then) (perform_record r part line) → ◌≡◌ {A = Played} (handed_on rest answer, after, then) (play_one bytes part line)
   record_handed_on read did =
       ap {B = Played} (λ (w : Result ℕ Refusal × PartState × List ℕ). (handed_on rest w.0, w.1, w.2)) did ∙ by_done (do_record r (bench part [])) ∙ ap (λ (x : RecordRead). count_step (do_read x (bench part [])) line) read
+
+-- a tape that is not at its end has bytes left
+pub some_left : (rest : List ℕ) (empty : Bool) → empty ≡ eqb (length rest) 0 → empty ≡ false → 0 < length rest
+some_left rest empty is none = omega (arith, eqb-false (length rest) 0 (sym is ∙ none))
+
+pub none_left : (rest : List ℕ) (empty : Bool) → empty ≡ eqb (length rest) 0 → empty ≡ true → length rest ≡ 0
+none_left rest empty is none = eqb-true (length rest) 0 (sym is ∙ none)
