@@ -1,12 +1,13 @@
 -- What each call of the register file does to its core: what the same call of the core does.
-use Rattle.std.proofs.Common.{◌≡◌, ℕ, zero, suc, ◌+◌, Bool, true, false, cond, eqb, ltb, Ok, Err, refl, ap, ◌∙◌}
+use Rattle.std.proofs.Common.{◌≡◌, ℕ, zero, suc, ◌+◌, Bool, true, false, cond, eqb, ltb, Ok, Err, refl, ap, ◌∙◌, arith, ◌<◌}
 use Rattle.refusals.specs.declared.Refusal.TheVariants.{TooManyPulses, AlreadyHeld, NotHeld}
-use Rattle.register_map.specs.Chart.{shown_by}
+use Rattle.register_map.specs.Chart.{shown_by, advanced}
 use Rattle.byte_map.specs.Cells.{byte_chart}
-use Rattle.clock_core.specs.Core.{CoreState, Accepted, at_position, cross_boundary, one_pulse, many_pulses, most_pulses, release_core, released as core_released, restart_second, set_trim, set_core_mode}
-use Rattle.clock_core.proofs.Effects.{pulses_held}
-use Rattle.rx5c_registers.specs.File.{FileState, with_core, alarm, alarm_written, cell_put, cell_written, control_written, flags_written, hour_mode_in, masked, written}
-use Rattle.rx5c_registers.specs.Clock.{at_minute, minute_begun, pulse_taken, pulses_taken, give_pulses, held, released}
+use Rattle.clock_core.specs.Core.{CoreState, Accepted, at_position, waiting, with_map, begin_second, cross_boundary, one_pulse, many_pulses, most_pulses, release_core, released as core_released, restart_second, set_trim, set_core_mode}
+use Rattle.clock_core.proofs.Effects.{pulse_held, pulses_held}
+use Rattle.rx5c_registers.specs.File.{FileState, with_core, alarm, alarm_written, cell_put, cell_written, control_written, flags_written, hour_mode_in, masked, registers, written}
+use Rattle.rx5c_registers.proofs.Passing.{taken_within}
+use Rattle.rx5c_registers.specs.Clock.{at_minute, minute_begun, after_advance, pulse_taken, pulses_taken, give_pulses, held, released}
 
 -- Pulses are pulses of the core.
 pulse_by : (f : FileState) (s t : CoreState) (within held minute : Bool) → (cond within (with_core f s) (cond held (with_core f t) (cond minute (minute_begun (with_core f t)) (with_core f t)))).core ≡ cond within s t
@@ -99,3 +100,43 @@ pub written_held : (f : FileState) (address byte : ℕ) → (written f address b
 written_held f address byte =
     ap (λ (s : CoreState). s.held) (written_core f address byte)
     ∙ put_held f.core address (masked address byte) (eqb address 0) (ltb address 7) (eqb address 7) (ltb address 14) (eqb address 14)
+
+-- What the sixteen registers read then. (A write: `written_stands`.) A hold moves none.
+pub held_registers : (f : FileState) → registers (held f) ≡ registers f
+held_registers f = by f.core.held
+  where
+    by : (b : Bool) → registers (with_core f (cond {A = Accepted × CoreState} b (Err AlreadyHeld, f.core) (Ok tt, record f.core { held = true })).1) ≡ registers f
+    by true = refl
+    by false = refl
+
+-- Neither does a release where no boundary waits.
+pub released_registers : (f : FileState) → f.core.waits ≡ false → registers (released f) ≡ registers f
+released_registers f e =
+    ap (λ (w : Bool). registers (cond w (after_advance (with_core f (release_core byte_chart f.core).1)) (with_core f (release_core byte_chart f.core).1))) e
+    ∙ by f.core.held
+  where
+    by : (b : Bool) → registers (with_core f (cond {A = Accepted × CoreState} b (Ok tt, core_released byte_chart f.core) (Err NotHeld, f.core)).1) ≡ registers f
+    by true = ap (λ (w : Bool). registers (with_core f (record f.core { map = cond w (advanced byte_chart f.core.map) f.core.map }))) e
+    by false = refl
+
+-- Nor do pulses while it is held, nor those that end no second.
+abbrev crossed_by : FileState → Bool → FileState
+crossed_by f b = with_core f (begin_second byte_chart (cond b (waiting f.core true) (with_map f.core (advanced byte_chart f.core.map))))
+
+pulse_registers : (f : FileState) → f.core.held ≡ true → registers (pulse_taken f) ≡ registers f
+pulse_registers f e = by (ltb (f.core.position + 1) f.core.second) f.core.held e
+  where
+    by : (within b : Bool) → b ≡ true → registers (cond within (with_core f (at_position f.core (f.core.position + 1))) (cond b (crossed_by f b) (after_advance (crossed_by f b)))) ≡ registers f
+    by true b h = refl
+    by false true h = refl
+    by false false h = let z : ◌≡◌ {A = ℕ} 0 1 = cc in absurd (omega arith)
+
+pub taken_registers_held : (n : ℕ) (f : FileState) → f.core.held ≡ true → registers (pulses_taken n f) ≡ registers f
+unfolding pulses_taken
+taken_registers_held zero f e = refl
+taken_registers_held (suc n) f e =
+    taken_registers_held n (pulse_taken f) (ap (λ (s : CoreState). s.held) (pulse_core f) ∙ pulse_held byte_chart f.core ∙ e)
+    ∙ pulse_registers f e
+
+pub taken_registers_within : (n : ℕ) (f : FileState) → f.core.position + n < f.core.second → registers (pulses_taken n f) ≡ registers f
+taken_registers_within n f h = ap registers (taken_within n f h)

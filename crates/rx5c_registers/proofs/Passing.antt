@@ -24,7 +24,7 @@ cross_from : (f : FileState) (p : ℕ) (held : Bool) → cond held (with_core f 
 cross_from f p true = refl
 cross_from f p false = refl
 
-taken_within : (k : ℕ) (f : FileState) → f.core.position + k < f.core.second → pulses_taken k f ≡ at f (f.core.position + k)
+pub taken_within : (k : ℕ) (f : FileState) → f.core.position + k < f.core.second → pulses_taken k f ≡ at f (f.core.position + k)
 unfolding pulses_taken
 taken_within zero f h = ap (at f) (omega arith)
 taken_within (suc k) f h =
