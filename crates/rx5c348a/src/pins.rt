@@ -53,7 +53,7 @@ impl Rx5c348a {
         PinAnswer { so, intr }
     }
 
-    // Selected, SCLK down, and the next bit would be the first of a header, which no transfer awaits unless selected.
+    // Selected, SCLK down, and the next bit would be the first of a header. Only while selected is a transfer under way.
     pub fn awaits_header(&self) -> bool
         ensures { result ≡ awaits_header (seen self.now) }
     {

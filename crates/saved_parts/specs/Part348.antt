@@ -24,7 +24,8 @@ saved p =
       transfer = transfer_saved p.phase;
     }
 
--- CE high is what a transfer runs under, and what holds the core: whether one of the three does not fit
+-- CE high is what a transfer runs under, and what holds the core:
+-- whether one of the three does not fit
 abbrev pub unfit : FileState → Bool → Phase → Bool
 unfit file ce phase = differ (under_way phase) ce || differ file.core.held ce
 
@@ -34,7 +35,8 @@ part_of (Some file) None sclk phase = None
 part_of (Some file) (Some ce) None phase = None
 part_of (Some file) (Some ce) (Some sclk) None = None
 part_of (Some file) (Some ce) (Some sclk) (Some phase) =
-    cond (unfit file ce phase) None (Some (record { file = file; ce = ce; sclk = sclk; phase = phase }))
+    cond (unfit file ce phase) None
+    (Some (record { file = file; ce = ce; sclk = sclk; phase = phase }))
 
 -- the part that a record is the saved state of, where it is one
 abbrev pub restored : Saved348 → Option PartState

@@ -1,4 +1,5 @@
-// Records that calls leave are taken by the next call; those with a trim, a second, or a CE, transfer and hold that no part has are refused.
+// Records that calls leave are taken by the next call; those with a trim, a second, or a CE,
+// transfer and hold that no part has are refused.
 use clock_core::setting::Setting;
 use msm62x42::part::Msm62x42;
 use rx5c348a::part::Rx5c348a;

@@ -1,4 +1,5 @@
--- Where a transfer stands: two numbers that every transfer bounds, the bits of the byte under way and the address, and whether one is under way.
+-- Where a transfer stands: two numbers that every transfer bounds, the bits of the byte under way
+-- and the address, and whether one is under way.
 use Rattle.std.specs.Prelude.{ℕ, Bool, true, false}
 use Rattle.serial_transfer.specs.declared.phase.Phase.{Phase}
 use Rattle.serial_transfer.specs.declared.phase.Phase.TheVariants.{Idle, Header, Write, Read, Deaf}
