@@ -34,7 +34,7 @@ fn years_80_84_and_88_are_leap(rt: HostRuntime) -> Result<(), Fail> {
         write_digits(&mut part, at_the_end(date, 3))?;
         unlock(&mut part)?;
         part.pulses(SECOND)?;
-        assert_eq!(rt; read_digits(&part)?, at_the_beginning(next, 4));
+        expect_digits(&rt, &part, at_the_beginning(next, 4))?;
     }
     Ok(())
 }
@@ -53,17 +53,14 @@ fn dates_that_do_not_exist_stand(rt: HostRuntime) -> Result<(), Fail> {
             unlock(&mut part)?;
             for _ in 0..3u8 {
                 part.pulses(SECOND)?;
-                assert_eq!(rt; read_digits(&part)?, digits);
+                expect_digits(&rt, &part, digits)?;
             }
             let mended = [8, 2, 2, 0, 3, 8];
             lock(&mut part)?;
             write_digits(&mut part, at_the_end(mended, 3))?;
             unlock(&mut part)?;
             part.pulses(SECOND)?;
-            assert_eq!(rt;
-                read_digits(&part)?,
-                at_the_beginning([1, 0, 3, 0, 3, 8], 4)
-            );
+            expect_digits(&rt, &part, at_the_beginning([1, 0, 3, 0, 3, 8], 4))?;
         }
     }
     Ok(())

@@ -11,12 +11,11 @@ fn hold_while_held(rt: HostRuntime) -> Result<(), Fail> {
         part.pulses(pulses)?;
         let before = all_of(&part)?;
         part.write(CONTROL_D, 1)?;
-        assert_eq!(rt; all_of(&part)?, before);
+        expect_all(&rt, &part, before)?;
     }
     assert!(rt; part.core.boundary_waits());
     unlock(&mut part)?;
-    assert_eq!(rt; part.read(0)?, 6);
-    Ok(())
+    expect_register(&rt, &part, 0, 6)
 }
 
 // HOLD 0 and deselect while released.
@@ -27,12 +26,11 @@ fn release_while_released(rt: HostRuntime) -> Result<(), Fail> {
         part.pulses(pulses)?;
         let before = all_of(&part)?;
         part.deselect();
-        assert_eq!(rt; all_of(&part)?, before);
+        expect_all(&rt, &part, before)?;
         part.write(CONTROL_D, 0)?;
-        assert_eq!(rt; all_of(&part)?, before);
+        expect_all(&rt, &part, before)?;
     }
-    assert_eq!(rt; part.read(0)?, 6);
-    Ok(())
+    expect_register(&rt, &part, 0, 6)
 }
 
 // A host that goes away while holding: the part releases, and one second of any number is applied.
@@ -59,8 +57,7 @@ fn load_releases(rt: HostRuntime) -> Result<(), Fail> {
     assert!(rt; part.core.boundary_waits());
     part.load(0, 6, TWENTY_FOUR)?;
     let loaded = [0, 0, 0, 0, 0, 0, 1, 0, 1, 0, 0, 0, 6, 2, 0, 4];
-    assert_eq!(rt; all_of(&part)?, (loaded, 0, 32_768, false));
+    expect_all(&rt, &part, (loaded, 0, 32_768, false))?;
     part.deselect();
-    assert_eq!(rt; all_of(&part)?, (loaded, 0, 32_768, false));
-    Ok(())
+    expect_all(&rt, &part, (loaded, 0, 32_768, false))
 }

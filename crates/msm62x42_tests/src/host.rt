@@ -1,5 +1,6 @@
 // A host that drives the part as operating systems do, and parts for it.
 use msm62x42::part::Msm62x42;
+use std::process::Abort;
 use std::test::Fail;
 
 // 17 July of year 26, 00:00:00, a Friday: 9,694 days from the beginning of year 00.
@@ -86,4 +87,34 @@ pub(crate) fn all_of(part: &Msm62x42) -> Result<([u8; 16], u32, u32, bool), Fail
         part.core.second_length,
         part.core.boundary_waits(),
     ))
+}
+
+// What each of these should be. Apart, so that a test is a short row of calls: each test is proved to be safe, and a long one takes long.
+
+pub(crate) fn expect_register(
+    rt: &impl Abort,
+    part: &Msm62x42,
+    address: u32,
+    byte: u8,
+) -> Result<(), Fail> {
+    assert_eq!(rt; part.read(address)?, byte);
+    Ok(())
+}
+
+pub(crate) fn expect_digits(
+    rt: &impl Abort,
+    part: &Msm62x42,
+    digits: [u8; 13],
+) -> Result<(), Fail> {
+    assert_eq!(rt; read_digits(part)?, digits);
+    Ok(())
+}
+
+pub(crate) fn expect_all(
+    rt: &impl Abort,
+    part: &Msm62x42,
+    all: ([u8; 16], u32, u32, bool),
+) -> Result<(), Fail> {
+    assert_eq!(rt; all_of(part)?, all);
+    Ok(())
 }

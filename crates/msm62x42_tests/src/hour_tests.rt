@@ -8,10 +8,9 @@ use std::test::Fail;
 fn power_on_stands_still(rt: HostRuntime) -> Result<(), Fail> {
     let mut part = Msm62x42::power_on();
     let registers = [0, 0, 0, 0, 0, 0, 0, 0, 0, 0, 0, 0, 0, 2, 0, 0];
-    assert_eq!(rt; all_of(&part)?, (registers, 0, 32_768, false));
+    expect_all(&rt, &part, (registers, 0, 32_768, false))?;
     part.pulses(SECOND + 5)?;
-    assert_eq!(rt; all_of(&part)?, (registers, 5, 32_768, false));
-    Ok(())
+    expect_all(&rt, &part, (registers, 5, 32_768, false))
 }
 
 // After power-on a host sets 24 hours and the time.
@@ -19,13 +18,12 @@ fn power_on_stands_still(rt: HostRuntime) -> Result<(), Fail> {
 fn the_switch_to_24_hours(rt: HostRuntime) -> Result<(), Fail> {
     let mut part = Msm62x42::power_on();
     part.write(CONTROL_F, 4)?;
-    assert_eq!(rt; part.read(CONTROL_F)?, 4);
+    expect_register(&rt, &part, CONTROL_F, 4)?;
     lock(&mut part)?;
     write_digits(&mut part, on_friday([9, 5, 9, 5, 2, 1]))?;
     unlock(&mut part)?;
     part.pulses(SECOND)?;
-    assert_eq!(rt; read_digits(&part)?, on_friday([0, 0, 0, 0, 3, 1]));
-    Ok(())
+    expect_digits(&rt, &part, on_friday([0, 0, 0, 0, 3, 1]))
 }
 
 // Only bit 0 of Dh and bit 2 of Fh are taken; Eh takes nothing.
@@ -36,12 +34,9 @@ fn other_control_bits_read_0(rt: HostRuntime) -> Result<(), Fail> {
         part.write(CONTROL_D, data)?;
         part.write(CONTROL_E, data)?;
         part.write(CONTROL_F, data)?;
-        assert_eq!(rt; part.read(CONTROL_D)?, if data % 2 == 1 { 1 } else { 2 });
-        assert_eq!(rt; part.read(CONTROL_E)?, 0);
-        assert_eq!(rt;
-            part.read(CONTROL_F)?,
-            if data / 4 % 2 == 1 { 4 } else { 0 }
-        );
+        expect_register(&rt, &part, CONTROL_D, if data % 2 == 1 { 1 } else { 2 })?;
+        expect_register(&rt, &part, CONTROL_E, 0)?;
+        expect_register(&rt, &part, CONTROL_F, if data / 4 % 2 == 1 { 4 } else { 0 })?;
     }
     Ok(())
 }
@@ -57,17 +52,13 @@ fn hours_change_at_the_second(rt: HostRuntime) -> Result<(), Fail> {
     for (time, before, after) in changes {
         let mut part = part_at(time, TWELVE)?;
         part.pulses(SECOND - 1)?;
-        assert_eq!(rt; read_digits(&part)?, on_friday(before));
+        expect_digits(&rt, &part, on_friday(before))?;
         part.pulses(1)?;
-        assert_eq!(rt; read_digits(&part)?, on_friday(after));
+        expect_digits(&rt, &part, on_friday(after))?;
     }
     let mut part = part_at(86_399, TWELVE)?;
     part.pulses(SECOND)?;
-    assert_eq!(rt;
-        read_digits(&part)?,
-        [0, 0, 0, 0, 2, 1, 8, 1, 7, 0, 6, 2, 6]
-    );
-    Ok(())
+    expect_digits(&rt, &part, [0, 0, 0, 0, 2, 1, 8, 1, 7, 0, 6, 2, 6])
 }
 
 // The mode leaves the digits: 11 in the afternoon is no hour of 24, until 12 hours are set again.
@@ -76,14 +67,13 @@ fn the_mode_leaves_the_digits(rt: HostRuntime) -> Result<(), Fail> {
     let eleven = on_friday([0, 0, 0, 0, 1, 5]);
     let mut part = part_at(82_800, TWELVE)?;
     part.write(CONTROL_F, 4)?;
-    assert_eq!(rt; read_digits(&part)?, eleven);
+    expect_digits(&rt, &part, eleven)?;
     part.pulses(SECOND)?;
-    assert_eq!(rt; read_digits(&part)?, eleven);
+    expect_digits(&rt, &part, eleven)?;
     part.write(CONTROL_F, 0)?;
-    assert_eq!(rt; read_digits(&part)?, eleven);
+    expect_digits(&rt, &part, eleven)?;
     part.pulses(SECOND)?;
-    assert_eq!(rt; read_digits(&part)?, on_friday([1, 0, 0, 0, 1, 5]));
-    Ok(())
+    expect_digits(&rt, &part, on_friday([1, 0, 0, 0, 1, 5]))
 }
 
 // Midnight written as hour 00 is no hour of 12: the calendar stands until 12 is written.
@@ -93,10 +83,9 @@ fn hour_00_stands_in_12_hour_mode(rt: HostRuntime) -> Result<(), Fail> {
     part.write(4, 0)?;
     part.write(5, 0)?;
     part.pulses(3 * SECOND)?;
-    assert_eq!(rt; read_digits(&part)?, on_friday([0, 0, 0, 0, 0, 0]));
+    expect_digits(&rt, &part, on_friday([0, 0, 0, 0, 0, 0]))?;
     part.write(4, 2)?;
     part.write(5, 1)?;
     part.pulses(SECOND)?;
-    assert_eq!(rt; read_digits(&part)?, on_friday([1, 0, 0, 0, 2, 1]));
-    Ok(())
+    expect_digits(&rt, &part, on_friday([1, 0, 0, 0, 2, 1]))
 }
