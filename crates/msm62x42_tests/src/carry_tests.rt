@@ -1,5 +1,7 @@
 // A carry through six digits, met at every pulse around a read of all thirteen.
 use crate::host::*;
+use msm62x42::part::Msm62x42;
+use std::process::Abort;
 use std::test::Fail;
 
 const BEFORE: [u8; 6] = [9, 5, 9, 5, 3, 1];
@@ -12,7 +14,7 @@ fn digits_after(pulses: u64) -> [u8; 13] {
 }
 
 // Reads the digits one by one, with a pulse after each.
-fn read_slowly(part: &mut msm62x42::part::Msm62x42) -> Result<[u8; 13], Fail> {
+fn read_slowly(part: &mut Msm62x42) -> Result<[u8; 13], Fail> {
     let mut digits = [0u8; 13];
     for (digit, address) in digits.iter_mut().zip(0..13u32) {
         *digit = part.read(address)?;
@@ -21,32 +23,48 @@ fn read_slowly(part: &mut msm62x42::part::Msm62x42) -> Result<[u8; 13], Fail> {
     Ok(digits)
 }
 
+// The digits, read so.
+fn expect_slowly(rt: &impl Abort, part: &mut Msm62x42, digits: [u8; 13]) -> Result<(), Fail> {
+    assert_eq!(rt; read_slowly(part)?, digits);
+    Ok(())
+}
+
+// Released after a read, so many pulses after the beginning.
+fn expect_after_release(rt: &impl Abort, part: &mut Msm62x42, pulses: u64) -> Result<(), Fail> {
+    unlock(part)?;
+    expect_digits(rt, part, digits_after(pulses))
+}
+
+fn held_after(rt: &impl Abort, pulses: u64) -> Result<(), Fail> {
+    let mut part = part_at(50_399, TWENTY_FOUR)?;
+    part.pulses(pulses)?;
+    lock(&mut part)?;
+    expect_slowly(rt, &mut part, digits_after(pulses))?;
+    expect_after_release(rt, &mut part, pulses.wrapping_add(13))
+}
+
 // Held for the read alone: the digits spell the moment at which HOLD was set, and the carry is there after release.
 #[test]
 fn held_after_the_pulses(rt: HostRuntime) -> Result<(), Fail> {
     for k in 0..200u64 {
-        let pulses = SECOND - 100 + k;
-        let mut part = part_at(50_399, TWENTY_FOUR)?;
-        part.pulses(pulses)?;
-        lock(&mut part)?;
-        assert_eq!(rt; read_slowly(&mut part)?, digits_after(pulses));
-        unlock(&mut part)?;
-        expect_digits(&rt, &part, digits_after(pulses + 13))?;
+        held_after(&rt, SECOND - 100 + k)?;
     }
     Ok(())
+}
+
+fn held_before(rt: &impl Abort, pulses: u64) -> Result<(), Fail> {
+    let mut part = part_at(50_399, TWENTY_FOUR)?;
+    lock(&mut part)?;
+    part.pulses(pulses)?;
+    expect_slowly(rt, &mut part, digits_after(0))?;
+    expect_after_release(rt, &mut part, pulses.wrapping_add(13))
 }
 
 // Held before all of them: the moment of HOLD stays, however many pulses come.
 #[test]
 fn held_before_the_pulses(rt: HostRuntime) -> Result<(), Fail> {
     for k in 0..200u64 {
-        let pulses = SECOND - 100 + k;
-        let mut part = part_at(50_399, TWENTY_FOUR)?;
-        lock(&mut part)?;
-        part.pulses(pulses)?;
-        assert_eq!(rt; read_slowly(&mut part)?, on_friday(BEFORE));
-        unlock(&mut part)?;
-        expect_digits(&rt, &part, digits_after(pulses + 13))?;
+        held_before(&rt, SECOND - 100 + k)?;
     }
     Ok(())
 }
@@ -56,6 +74,5 @@ fn held_before_the_pulses(rt: HostRuntime) -> Result<(), Fail> {
 fn released_reads_are_torn(rt: HostRuntime) -> Result<(), Fail> {
     let mut part = part_at(50_399, TWENTY_FOUR)?;
     part.pulses(SECOND - 2)?;
-    assert_eq!(rt; read_slowly(&mut part)?, on_friday([9, 5, 0, 0, 4, 1]));
-    Ok(())
+    expect_slowly(&rt, &mut part, on_friday([9, 5, 0, 0, 4, 1]))
 }

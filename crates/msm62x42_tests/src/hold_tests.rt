@@ -1,5 +1,6 @@
 // What holds, what releases, and what changes nothing.
 use crate::host::*;
+use std::process::Abort;
 use std::test::Fail;
 
 // HOLD 1 while held leaves the waiting second waiting.
@@ -33,17 +34,25 @@ fn release_while_released(rt: HostRuntime) -> Result<(), Fail> {
     expect_register(&rt, &part, 0, 6)
 }
 
+// Held for so many pulses from second 05 on, and then deselected.
+fn deselected_after(rt: &impl Abort, pulses: u64, shown: u8) -> Result<(), Fail> {
+    let mut part = part_at(5, TWENTY_FOUR)?;
+    lock(&mut part)?;
+    part.pulses(pulses)?;
+    expect_register(rt, &part, 0, 5)?;
+    expect_register(rt, &part, CONTROL_D, 1)?;
+    part.deselect();
+    expect_register(rt, &part, 0, shown)?;
+    expect_register(rt, &part, CONTROL_D, 2)
+}
+
+const STRETCHES: [(u64, u8); 4] = [(32_767, 5), (32_768, 6), (65_536, 6), (1_048_576, 6)];
+
 // A host that goes away while holding: the part releases, and one second of any number is applied.
 #[test]
 fn deselect_releases(rt: HostRuntime) -> Result<(), Fail> {
-    for (pulses, shown) in [(32_767, 5), (32_768, 6), (65_536, 6), (1_048_576, 6)] {
-        let mut part = part_at(5, TWENTY_FOUR)?;
-        lock(&mut part)?;
-        part.pulses(pulses)?;
-        assert_eq!(rt; (part.read(0)?, part.read(CONTROL_D)?), (5, 1));
-        part.deselect();
-        assert_eq!(rt; (part.read(0)?, part.read(CONTROL_D)?), (shown, 2));
-        assert!(rt; !part.core.boundary_waits());
+    for (pulses, shown) in STRETCHES {
+        deselected_after(&rt, pulses, shown)?;
     }
     Ok(())
 }

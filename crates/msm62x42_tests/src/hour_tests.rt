@@ -1,6 +1,7 @@
 // Power-on, the hour mode and the control registers' other bits.
 use crate::host::*;
 use msm62x42::part::Msm62x42;
+use std::process::Abort;
 use std::test::Fail;
 
 // All zero but BUSY; no moment is shown, so pulses change no register.
@@ -41,20 +42,26 @@ fn other_control_bits_read_0(rt: HostRuntime) -> Result<(), Fail> {
     Ok(())
 }
 
+// A time, its digits one pulse before the next second, and those of the next second.
+const CHANGES: [(u32, [u8; 6], [u8; 6]); 3] = [
+    (3_599, [9, 5, 9, 5, 2, 1], [0, 0, 0, 0, 1, 0]),
+    (43_199, [9, 5, 9, 5, 1, 1], [0, 0, 0, 0, 2, 5]),
+    (46_799, [9, 5, 9, 5, 2, 5], [0, 0, 0, 0, 1, 4]),
+];
+
+fn expect_change(rt: &impl Abort, time: u32, before: [u8; 6], after: [u8; 6]) -> Result<(), Fail> {
+    let mut part = part_at(time, TWELVE)?;
+    part.pulses(SECOND - 1)?;
+    expect_digits(rt, &part, on_friday(before))?;
+    part.pulses(1)?;
+    expect_digits(rt, &part, on_friday(after))
+}
+
 // In 12-hour mode the half days run 12, 1 to 11; the afternoon adds 4 to the tens of hours.
 #[test]
 fn hours_change_at_the_second(rt: HostRuntime) -> Result<(), Fail> {
-    let changes = [
-        (3_599, [9, 5, 9, 5, 2, 1], [0, 0, 0, 0, 1, 0]),
-        (43_199, [9, 5, 9, 5, 1, 1], [0, 0, 0, 0, 2, 5]),
-        (46_799, [9, 5, 9, 5, 2, 5], [0, 0, 0, 0, 1, 4]),
-    ];
-    for (time, before, after) in changes {
-        let mut part = part_at(time, TWELVE)?;
-        part.pulses(SECOND - 1)?;
-        expect_digits(&rt, &part, on_friday(before))?;
-        part.pulses(1)?;
-        expect_digits(&rt, &part, on_friday(after))?;
+    for (time, before, after) in CHANGES {
+        expect_change(&rt, time, before, after)?;
     }
     let mut part = part_at(86_399, TWELVE)?;
     part.pulses(SECOND)?;

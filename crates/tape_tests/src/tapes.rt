@@ -5,7 +5,7 @@ use std::test::Fail;
 
 #[test]
 fn good_tapes(rt: HostRuntime) -> Result<(), Fail> {
-    let cases: [(&[u8], &[u8]); 9] = [
+    const CASES: [(&[u8], &[u8]); 9] = [
         // nothing to do
         (b"", b""),
         // a single group of 0
@@ -37,7 +37,7 @@ fn good_tapes(rt: HostRuntime) -> Result<(), Fail> {
         // the last moment
         (b"\x4D\xFF\xCD\xC8\xC1\x17", b""),
     ];
-    for (tape, expected) in cases {
+    for (tape, expected) in CASES {
         prints(&rt, rt.alloc(), tape, expected)?;
     }
     Ok(())
@@ -45,7 +45,7 @@ fn good_tapes(rt: HostRuntime) -> Result<(), Fail> {
 
 #[test]
 fn broken_off(rt: HostRuntime) -> Result<(), Fail> {
-    let cases: [(&[u8], &[u8]); 12] = [
+    const CASES: [(&[u8], &[u8]); 12] = [
         // after a kind byte
         (b"\x4C", b"fault 12 at 0 in tape\n"),
         // after a kind byte
@@ -76,7 +76,7 @@ fn broken_off(rt: HostRuntime) -> Result<(), Fail> {
             b"5 00000000000000000000000000000010\nfault 12 at 2 in tape\n",
         ),
     ];
-    for (tape, expected) in cases {
+    for (tape, expected) in CASES {
         prints(&rt, rt.alloc(), tape, expected)?;
     }
     Ok(())
@@ -84,7 +84,7 @@ fn broken_off(rt: HostRuntime) -> Result<(), Fail> {
 
 #[test]
 fn bad_numbers(rt: HostRuntime) -> Result<(), Fail> {
-    let cases: [(&[u8], &[u8]); 7] = [
+    const CASES: [(&[u8], &[u8]); 7] = [
         // five groups with bit 7 set at the very end
         (b"\x4C\x80\x80\x80\x80\x80", b"fault 13 at 0 in tape\n"),
         // and in the middle
@@ -106,7 +106,7 @@ fn bad_numbers(rt: HostRuntime) -> Result<(), Fail> {
             b"9 00000000000000000000000000000010\nfault 13 at 2 in tape\n",
         ),
     ];
-    for (tape, expected) in cases {
+    for (tape, expected) in CASES {
         prints(&rt, rt.alloc(), tape, expected)?;
     }
     Ok(())
@@ -114,7 +114,7 @@ fn bad_numbers(rt: HostRuntime) -> Result<(), Fail> {
 
 #[test]
 fn unknown_kinds(rt: HostRuntime) -> Result<(), Fail> {
-    let cases: [(&[u8], &[u8]); 5] = [
+    const CASES: [(&[u8], &[u8]); 5] = [
         // at the very end
         (b"\x00", b"fault 11 at 0 in tape\n"),
         // whatever follows
@@ -132,7 +132,7 @@ fn unknown_kinds(rt: HostRuntime) -> Result<(), Fail> {
             b"1 00000000000000000000000000000010\nfault 11 at 4 in tape\n",
         ),
     ];
-    for (tape, expected) in cases {
+    for (tape, expected) in CASES {
         prints(&rt, rt.alloc(), tape, expected)?;
     }
     Ok(())
@@ -140,7 +140,7 @@ fn unknown_kinds(rt: HostRuntime) -> Result<(), Fail> {
 
 #[test]
 fn refused_by_the_part(rt: HostRuntime) -> Result<(), Fail> {
-    let cases: [(&[u8], &[u8]); 6] = [
+    const CASES: [(&[u8], &[u8]); 6] = [
         // the largest number as a moment
         (b"\x4D\xFF\xFF\xFF\xFF\x7F", b"fault 1 at 0 in part\n"),
         // the first moment past the cycle
@@ -157,7 +157,7 @@ fn refused_by_the_part(rt: HostRuntime) -> Result<(), Fail> {
             b"7 00000000000000000000000000000010\nfault 3 at 6 in part\n",
         ),
     ];
-    for (tape, expected) in cases {
+    for (tape, expected) in CASES {
         prints(&rt, rt.alloc(), tape, expected)?;
     }
     Ok(())
@@ -165,7 +165,7 @@ fn refused_by_the_part(rt: HostRuntime) -> Result<(), Fail> {
 
 #[test]
 fn on_the_part(rt: HostRuntime) -> Result<(), Fail> {
-    let cases: [(&[u8], &[u8]); 6] = [
+    const CASES: [(&[u8], &[u8]); 6] = [
         // one second into 1 January 2000
         (
             b"\x4D\x80\xA7\xE4\xE0\x0B\x50\x80\x80\x02\x4C\x07",
@@ -194,7 +194,7 @@ fn on_the_part(rt: HostRuntime) -> Result<(), Fail> {
             b"1 00000000010100000000000000002000\nfault 1 at 4 in part\n",
         ),
     ];
-    for (tape, expected) in cases {
+    for (tape, expected) in CASES {
         prints(&rt, rt.alloc(), tape, expected)?;
     }
     Ok(())

@@ -80,7 +80,7 @@ fn seven_bits_print(
 
 #[test]
 fn accepted_levels(rt: HostRuntime) -> Result<(), Fail> {
-    let cases: [(&[u8], &[u8]); 4] = [
+    const CASES: [(&[u8], &[u8]); 4] = [
         // nothing is printed
         (b"\x57\x00", b""),
         // CE alone, then SCLK
@@ -99,7 +99,7 @@ fn accepted_levels(rt: HostRuntime) -> Result<(), Fail> {
             b"1 00000000000000000000000000000010\n",
         ),
     ];
-    for (tape, expected) in cases {
+    for (tape, expected) in CASES {
         prints(&rt, rt.alloc(), tape, expected)?;
     }
     Ok(())
@@ -107,7 +107,7 @@ fn accepted_levels(rt: HostRuntime) -> Result<(), Fail> {
 
 #[test]
 fn refused_levels(rt: HostRuntime) -> Result<(), Fail> {
-    let cases: [(&[u8], &[u8]); 11] = [
+    const CASES: [(&[u8], &[u8]); 11] = [
         // the first level that there is not
         (b"\x57\x08", b"fault 4 at 0 in part\n"),
         // 256 is not cut to 0
@@ -133,7 +133,7 @@ fn refused_levels(rt: HostRuntime) -> Result<(), Fail> {
             b"7 00000000000000000000000000000010\nfault 5 at 6 in part\n",
         ),
     ];
-    for (tape, expected) in cases {
+    for (tape, expected) in CASES {
         prints(&rt, rt.alloc(), tape, expected)?;
     }
     Ok(())
@@ -141,7 +141,7 @@ fn refused_levels(rt: HostRuntime) -> Result<(), Fail> {
 
 #[test]
 fn written_registers(rt: HostRuntime) -> Result<(), Fail> {
-    let cases: [(&[u8], &[u8]); 6] = [
+    const CASES: [(&[u8], &[u8]); 6] = [
         // a single write of the trim
         (&[0x78, 0x2A], b"1 000000000101002A0000000000002000\n"),
         // the highest bit comes first
@@ -167,7 +167,7 @@ fn written_registers(rt: HostRuntime) -> Result<(), Fail> {
             b"1 563412052982040715077F452300F7AC\n",
         ),
     ];
-    for (bytes, expected) in cases {
+    for (bytes, expected) in CASES {
         exchange_prints(&rt, rt.alloc(), bytes, expected)?;
     }
     Ok(())
@@ -175,7 +175,7 @@ fn written_registers(rt: HostRuntime) -> Result<(), Fail> {
 
 #[test]
 fn reads_leave_the_registers(rt: HostRuntime) -> Result<(), Fail> {
-    let cases: [(&[u8], &[u8]); 4] = [
+    const CASES: [(&[u8], &[u8]); 4] = [
         // a single read
         (&[0x0C, 0xFF], b"1 00000000010100000000000000002000\n"),
         // a burst read over the end
@@ -194,7 +194,7 @@ fn reads_leave_the_registers(rt: HostRuntime) -> Result<(), Fail> {
             b"1 00000000010100000000000000002000\n",
         ),
     ];
-    for (bytes, expected) in cases {
+    for (bytes, expected) in CASES {
         exchange_prints(&rt, rt.alloc(), bytes, expected)?;
     }
     Ok(())
@@ -202,7 +202,7 @@ fn reads_leave_the_registers(rt: HostRuntime) -> Result<(), Fail> {
 
 #[test]
 fn byte_lands_at_its_eighth_fall(rt: HostRuntime) -> Result<(), Fail> {
-    let cases: [(&[u8], &[u8]); 3] = [
+    const CASES: [(&[u8], &[u8]); 3] = [
         // not at its eighth rise
         (
             b"\x57\x07\x4C\x01\x57\x05\x4C\x02",
@@ -216,7 +216,7 @@ fn byte_lands_at_its_eighth_fall(rt: HostRuntime) -> Result<(), Fail> {
             b"1 00000000010100000000000000002000\nfault 4 at 68 in part\n",
         ),
     ];
-    for (end, expected) in cases {
+    for (end, expected) in CASES {
         seven_bits_print(&rt, rt.alloc(), end, expected)?;
     }
     Ok(())
@@ -224,7 +224,7 @@ fn byte_lands_at_its_eighth_fall(rt: HostRuntime) -> Result<(), Fail> {
 
 #[test]
 fn several_exchanges(rt: HostRuntime) -> Result<(), Fail> {
-    let cases: [(&[(&[u8], &[u8])], &[u8], &[u8]); 3] = [
+    const CASES: [(&[(&[u8], &[u8])], &[u8], &[u8]); 3] = [
         // format 9 is none: the part is deaf until CE falls
         (
             &[
@@ -250,7 +250,7 @@ fn several_exchanges(rt: HostRuntime) -> Result<(), Fail> {
             b"1 00000000010100000000000000002000\n2 01000000010100000000000000002000\n",
         ),
     ];
-    for (exchanges, end, expected) in cases {
+    for (exchanges, end, expected) in CASES {
         exchanges_print(&rt, rt.alloc(), exchanges, end, expected)?;
     }
     Ok(())
@@ -269,7 +269,7 @@ fn ce_holds_the_calendar(rt: HostRuntime) -> Result<(), Fail> {
 
 #[test]
 fn alarms(rt: HostRuntime) -> Result<(), Fail> {
-    let cases: [(&[(&[u8], &[u8])], &[u8], &[u8]); 3] = [
+    const CASES: [(&[(&[u8], &[u8])], &[u8], &[u8]); 3] = [
         // the example tape: from Saturday 06:59:59 on, Alarm_W at 07:00 on Saturdays and Alarm_D at 07:01
         (
             &[
@@ -308,7 +308,7 @@ fn alarms(rt: HostRuntime) -> Result<(), Fail> {
             b"1 5900000001010000010001000000A000\n2 0001000001010000010001000000A002\n",
         ),
     ];
-    for (exchanges, end, expected) in cases {
+    for (exchanges, end, expected) in CASES {
         exchanges_print(&rt, rt.alloc(), exchanges, end, expected)?;
     }
     Ok(())
