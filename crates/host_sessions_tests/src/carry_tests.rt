@@ -3,6 +3,7 @@ use crate::host::*;
 use host_sessions::idle::IdleSession;
 use refusals::Refusal;
 use rx5c348a::part::Rx5c348a;
+use std::process::Abort;
 use std::test::Fail;
 
 // 13:59:59 before the end of the second, 14:00:00 from then on.
@@ -26,17 +27,39 @@ fn read_slowly(part: &mut Rx5c348a) -> Result<[u8; 16], Refusal> {
     })
 }
 
+fn burst_after(rt: &impl Abort, pulses: u64) -> Result<(), Fail> {
+    let mut part = part_at(50_399)?;
+    part.pulses(pulses)?;
+    let mut registers = [0u8; 16];
+    assert_eq!(rt; read_burst(&mut part, 0, &mut registers), 16);
+    assert_eq!(rt; registers, registers_after(pulses));
+    Ok(())
+}
+
 // The carry is there or not as the session opens.
 #[test]
 fn burst_after_the_pulses(rt: HostRuntime) -> Result<(), Fail> {
     for k in 0..60u64 {
-        let pulses = SECOND - 30 + k;
-        let mut part = part_at(50_399)?;
-        part.pulses(pulses)?;
-        let mut registers = [0u8; 16];
-        assert_eq!(rt; read_burst(&mut part, 0, &mut registers), 16);
-        assert_eq!(rt; registers, registers_after(pulses));
+        burst_after(&rt, SECOND - 30 + k)?;
     }
+    Ok(())
+}
+
+// A burst of all registers after pulses in the open session.
+fn read_held(part: &mut Rx5c348a, pulses: u64) -> Result<(usize, [u8; 16]), Refusal> {
+    let session = IdleSession::new().open(part);
+    let given = part.pulses(pulses);
+    let mut registers = [0u8; 16];
+    let (spent, moved) = session.burst_read(part, 0, &mut registers);
+    spent.close(part).end();
+    given?;
+    Ok((moved, registers))
+}
+
+fn burst_over(rt: &impl Abort, pulses: u64) -> Result<(), Fail> {
+    let mut part = part_at(50_399)?;
+    assert_eq!(rt; read_held(&mut part, pulses)?, (16, registers_after(0)));
+    assert_eq!(rt; look(&part)?, registers_after(pulses));
     Ok(())
 }
 
@@ -44,18 +67,16 @@ fn burst_after_the_pulses(rt: HostRuntime) -> Result<(), Fail> {
 #[test]
 fn burst_over_the_pulses(rt: HostRuntime) -> Result<(), Fail> {
     for k in 0..60u64 {
-        let pulses = SECOND - 30 + k;
-        let mut part = part_at(50_399)?;
-        let session = IdleSession::new().open(&mut part);
-        let given = part.pulses(pulses);
-        let mut registers = [0u8; 16];
-        let (spent, moved) = session.burst_read(&mut part, 0, &mut registers);
-        spent.close(&mut part).end();
-        given?;
-        assert_eq!(rt; moved, 16);
-        assert_eq!(rt; registers, registers_after(0));
-        assert_eq!(rt; look(&part)?, registers_after(pulses));
+        burst_over(&rt, SECOND - 30 + k)?;
     }
+    Ok(())
+}
+
+fn singles_over(rt: &impl Abort, pulses: u64) -> Result<(), Fail> {
+    let mut part = part_at(50_399)?;
+    part.pulses(pulses)?;
+    assert_eq!(rt; read_slowly(&mut part)?, registers_after(pulses));
+    assert_eq!(rt; look(&part)?, registers_after(pulses.wrapping_add(16)));
     Ok(())
 }
 
@@ -63,11 +84,7 @@ fn burst_over_the_pulses(rt: HostRuntime) -> Result<(), Fail> {
 #[test]
 fn singles_over_the_carry(rt: HostRuntime) -> Result<(), Fail> {
     for k in 0..40u64 {
-        let pulses = SECOND - 30 + k;
-        let mut part = part_at(50_399)?;
-        part.pulses(pulses)?;
-        assert_eq!(rt; read_slowly(&mut part)?, registers_after(pulses));
-        assert_eq!(rt; look(&part)?, registers_after(pulses + 16));
+        singles_over(&rt, SECOND - 30 + k)?;
     }
     Ok(())
 }

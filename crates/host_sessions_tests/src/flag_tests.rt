@@ -4,6 +4,7 @@ use host_sessions::idle::IdleSession;
 use refusals::Refusal;
 use rx5c348a::part::Rx5c348a;
 use rx5c348a::pins::CE;
+use std::process::Abort;
 use std::test::Fail;
 
 const SCRATCH1: u8 = 0x20;
@@ -29,24 +30,29 @@ fn change_flags(part: &mut Rx5c348a, set: u8, cleared: u8) -> Result<(u8, u8), R
     })
 }
 
+// Such a change, Fh before and after it, and /INTR then.
+fn expect_change(
+    rt: &impl Abort,
+    part: &mut Rx5c348a,
+    change: (u8, u8),
+    flags: (u8, u8),
+    intr: u8,
+) -> Result<(), Fail> {
+    let (set, cleared) = change;
+    assert_eq!(rt; change_flags(part, set, cleared)?, flags);
+    assert_eq!(rt; u8::from(part.answer().intr), intr);
+    Ok(())
+}
+
 #[test]
 fn flags_change_in_one_session(rt: HostRuntime) -> Result<(), Fail> {
     let mut part = ringing_part()?;
     assert_eq!(rt; u8::from(part.answer().intr), 0);
     // a flag that is written back as 1 stays
-    assert_eq!(rt;
-        change_flags(&mut part, SCRATCH1, 0)?,
-        (WAFG, WAFG | SCRATCH1)
-    );
-    assert_eq!(rt; u8::from(part.answer().intr), 0);
-    assert_eq!(rt;
-        change_flags(&mut part, 0, WAFG)?,
-        (WAFG | SCRATCH1, SCRATCH1)
-    );
-    assert_eq!(rt; u8::from(part.answer().intr), 1);
+    expect_change(&rt, &mut part, (SCRATCH1, 0), (WAFG, WAFG | SCRATCH1), 0)?;
+    expect_change(&rt, &mut part, (0, WAFG), (WAFG | SCRATCH1, SCRATCH1), 1)?;
     // and cannot be set by writing
-    assert_eq!(rt; change_flags(&mut part, WAFG, SCRATCH1)?, (SCRATCH1, 0));
-    Ok(())
+    expect_change(&rt, &mut part, (WAFG, SCRATCH1), (SCRATCH1, 0), 1)
 }
 
 // A host that lets many headers follow each other under one CE.
