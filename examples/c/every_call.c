@@ -95,6 +95,15 @@ static void records_of_no_part(void) {
     no_part_has(one, 36, 1, other, 15, 7);
     /* held with CE down, and another second than 32,768 */
     no_part_has(one, 12, 1, other, 8, 2);
+    /* an unused bit of a cell: of the seconds and the hours, and of the first, second and last digit */
+    no_part_has(one, 16, 0x80, other, 16, 0x10);
+    no_part_has(one, 18, 0x40, other, 17, 8);
+    /* of an alarm's hour; Alarm_D not on every day */
+    no_part_has(one, 24, 0x40, other, 28, 8);
+    no_part_has(one, 30, 0x3F, other, 28, 8);
+    /* of what Eh and Fh only store */
+    no_part_has(one, 34, 0x08, other, 28, 8);
+    no_part_has(one, 35, 0x40, other, 28, 8);
 }
 
 static void looks(void) {

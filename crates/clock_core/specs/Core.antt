@@ -106,7 +106,7 @@ make_core c m trim = cond (nat_lt 127 trim) (Err (NoSuchSetting, m)) (made_of c 
 abbrev pub idle_core : MapState → CoreState
 idle_core m = record { map = m; trim = 0; position = 0; second = 32768; held = false; waits = false }
 
--- the hour mode of a number; a load of one that has none is refused before it asks
+-- the hour mode of a number; load refuses one that has none, before this is asked
 abbrev pub mode_of : ℕ → HourMode
 mode_of number = result_unwrap_or (mode_numbered number) Twelve
 

@@ -14,7 +14,8 @@ use register_map::shown::Shown;
 impl<M: RegisterMap> ClockCore<M> {
     // A released core over a map, at the beginning of a second.
     pub fn make(map: M, trim: u32) -> Result<ClockCore<M>, MakeRefused<M>>
-        ensures { meant_made M.RegisterMap result ≡ make_core M.RegisterMap.chart (map_meant M.RegisterMap map) trim }
+        ensures { meant_made M.RegisterMap result
+            ≡ make_core M.RegisterMap.chart (map_meant M.RegisterMap map) trim }
     {
         if trim > 127 {
             let refusal = Refusal::NoSuchSetting;

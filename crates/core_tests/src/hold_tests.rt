@@ -6,7 +6,7 @@ use register_map::hour_mode::HourMode;
 use std::process::Abort;
 use std::test::Fail;
 
-// What each of these should be. Apart, so that a test is a short row of calls: each test is proved to be safe, and a long one takes long.
+// Each looks at one thing: a test is then a short row of calls, since a long one takes long to prove.
 
 fn expect_seconds(
     rt: &impl Abort,

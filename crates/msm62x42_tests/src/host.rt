@@ -89,7 +89,7 @@ pub(crate) fn all_of(part: &Msm62x42) -> Result<([u8; 16], u32, u32, bool), Fail
     ))
 }
 
-// What each of these should be. Apart, so that a test is a short row of calls: each test is proved to be safe, and a long one takes long.
+// Each looks at one thing: a test is then a short row of calls, since a long one takes long to prove.
 
 pub(crate) fn expect_register(
     rt: &impl Abort,

@@ -218,7 +218,7 @@ pub(crate) fn all_of(part: &Rx5c348a) -> Result<([u8; 16], Running, Wires), Fail
     Ok((registers_of(part)?, running_of(part), wires_of(part)))
 }
 
-// What each of these should be. Apart, so that a test is a short row of calls: each test is proved to be safe, and a long one takes long.
+// Each looks at one thing: a test is then a short row of calls, since a long one takes long to prove.
 
 // New levels, and the SO and /INTR that they answer.
 pub(crate) fn expect_pins(

@@ -29,16 +29,13 @@ flag_written bit row = with_flag row (row.flag && bit)
 
 -- A row's registers have seven bits, six and seven; the others are cleared.
 abbrev pub with_minute : ℕ → AlarmRow → AlarmRow
-with_minute byte row =
-    record { minute = byte % 128; hour = row.hour; days = row.days; enabled = row.enabled; flag = row.flag }
+with_minute byte row = record row { minute = byte % 128 }
 
 abbrev pub with_hour : ℕ → AlarmRow → AlarmRow
-with_hour byte row =
-    record { minute = row.minute; hour = byte % 64; days = row.days; enabled = row.enabled; flag = row.flag }
+with_hour byte row = record row { hour = byte % 64 }
 
 abbrev pub with_days : ℕ → AlarmRow → AlarmRow
-with_days byte row =
-    record { minute = row.minute; hour = row.hour; days = byte % 128; enabled = row.enabled; flag = row.flag }
+with_days byte row = record row { days = byte % 128 }
 
 -- a row that is set for nothing, on these days
 abbrev pub blank_row : ℕ → AlarmRow

@@ -25,4 +25,5 @@ abbrev pub has_unused_bit : SavedAlarm → Bool
 has_unused_bit r = nat_le 128 r.minute || (nat_le 64 r.hour || nat_le 128 r.days)
 
 abbrev pub alarm_restored : SavedAlarm → Option AlarmRow
-alarm_restored r = cond (has_unused_bit r) None (alarm_of r (flag_numbered r.enabled) (flag_numbered r.flag))
+alarm_restored r =
+    cond (has_unused_bit r) None (alarm_of r (flag_numbered r.enabled) (flag_numbered r.flag))

@@ -34,7 +34,8 @@ file_of r (Some core) (Some weekly) (Some daily) (Some stopped) =
 -- what Eh and Fh only store, with no other bit
 abbrev pub stored_masked : SavedFile → Bool
 stored_masked r =
-    bit_and r.stored_control 0x17 == r.stored_control && bit_and r.stored_flags 0xAC == r.stored_flags
+    bit_and r.stored_control 0x17 == r.stored_control
+    && bit_and r.stored_flags 0xAC == r.stored_flags
 
 -- no cell and no stored byte has an unused bit, and Alarm_D is on every day
 abbrev pub file_masked : SavedFile → Bool

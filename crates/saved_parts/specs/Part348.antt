@@ -24,8 +24,7 @@ saved p =
       transfer = transfer_saved p.phase;
     }
 
--- CE high is what a transfer runs under, and what holds the core:
--- whether one of the three does not fit
+-- a transfer is under way, and the core held, exactly while CE is high: whether that fails
 abbrev pub unfit : FileState → Bool → Phase → Bool
 unfit file ce phase = differ (under_way phase) ce || differ file.core.held ce
 

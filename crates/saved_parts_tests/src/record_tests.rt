@@ -43,7 +43,7 @@ fn unfit_ones_are_refused(record: Saved348) -> bool {
     is_no_348(ce_turned) && is_no_348(hold_turned) && is_no_348(transfer_turned)
 }
 
-// Accepted, and what the call left may be told from what no part is.
+// Accepted; and the record that it leaves is refused once one of the three is turned.
 fn is_driven(record: &mut Saved348, levels: u32) -> bool {
     record.pins(levels) < 256 && unfit_ones_are_refused(*record)
 }

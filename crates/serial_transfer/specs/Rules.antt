@@ -13,18 +13,20 @@ use Rattle.serial_transfer.specs.Levels.{taken, bit_at, level_out}
 abbrev pub fresh_header : Phase
 fresh_header = Header 0 0
 
--- The format of a header, by its low four bits.
-abbrev pub format_coded : ℕ → Option Format
-format_coded code =
-    cond (code == 8) (Some SingleWrite)
-    (cond (code == 0) (Some BurstWrite) (cond (code == 12) (Some SingleRead) (cond (code == 4) (Some BurstRead) None)))
-
--- the code of a format
+-- The code of a format, as a header has it in its low four bits.
 abbrev pub code_of : Format → ℕ
 code_of SingleWrite = 8
 code_of BurstWrite = 0
 code_of SingleRead = 12
 code_of BurstRead = 4
+
+-- the format of a code; no other code is one
+abbrev pub format_coded : ℕ → Option Format
+format_coded code =
+    cond (code == code_of SingleWrite) (Some SingleWrite)
+    (cond (code == code_of BurstWrite) (Some BurstWrite)
+    (cond (code == code_of SingleRead) (Some SingleRead)
+    (cond (code == code_of BurstRead) (Some BurstRead) None)))
 
 -- The data that a format begins at an address; without a known format the part is deaf.
 abbrev pub data_at : ℕ → Option Format → Phase

@@ -11,7 +11,7 @@ use Rattle.tape.specs.declared.fault.RecordFault.{RecordFault}
 use Rattle.tape.specs.declared.record.Record.{Record}
 use Rattle.tape.specs.declared.record.Record.TheVariants.{Load, Pulses, Levels, Print}
 use Rattle.tape.specs.Faults.{of_tape, of_part}
-use Rattle.tape.specs.Playing.{Bench, Outcome, Done, Stepped, Played, bench, tape_weekday, give_levels, printing, do_record, do_read, done_before, rest_after, one_record, in_front, count_printed, perform_record, count_step, play_one, place_fault, with_place, go_on, then_on, play_from, play_rest}
+use Rattle.tape.specs.Playing.{Bench, Outcome, Done, Stepped, RecordPlayed, bench, tape_weekday, give_levels, printing, do_record, do_read, done_before, rest_after, one_record, in_front, count_printed, perform_record, count_step, play_one, place_fault, with_place, go_on, then_on, play_from, play_rest}
 use Rattle.tape.specs.Records.{RecordRead, read_record}
 use Rattle.tape.proofs.Reading.{record_shortens}
 
@@ -103,11 +103,11 @@ step_quiet bytes part = by_read (read_record bytes)
 
 -- From a record played by itself, with a line, to one played after others: what was printed before stands before.
 module _ (bytes : List ℕ) (part after : PartState) (before line then : List ℕ) where
-  step_taken : (did : Stepped) (count : ℕ) (rest : List ℕ) → ◌≡◌ {A = Played} (Ok (count, rest), after, then) (count_step did line) → ◌≡◌ {A = Stepped} (Ok rest, bench after (before ++ take count then)) (behind before did)
+  step_taken : (did : Stepped) (count : ℕ) (rest : List ℕ) → ◌≡◌ {A = RecordPlayed} (Ok (count, rest), after, then) (count_step did line) → ◌≡◌ {A = Stepped} (Ok rest, bench after (before ++ take count then)) (behind before did)
   step_taken (Ok left, b) count rest is =
       let text = take-append_seam b.printed (drop (length b.printed) line) in
-      let taken : take count then ≡ b.printed = ap (λ (w : Played). take count w.2) is ∙ ap (λ n. take n (in_front b.printed line)) (counted (ap (λ (w : Played). w.0) is)) ∙ text in
-      ap {B = Stepped} (λ (l : List ℕ). (Ok l, bench after (before ++ take count then))) (left_is (ap (λ (w : Played). w.0) is)) ∙ ap {B = Stepped} (λ (p : PartState). (Ok left, bench p (before ++ take count then))) (ap (λ (w : Played). w.1) is) ∙ ap {B = Stepped} (λ (l : List ℕ). (Ok left, bench b.part (before ++ l))) taken
+      let taken : take count then ≡ b.printed = ap (λ (w : RecordPlayed). take count w.2) is ∙ ap (λ n. take n (in_front b.printed line)) (counted (ap (λ (w : RecordPlayed). w.0) is)) ∙ text in
+      ap {B = Stepped} (λ (l : List ℕ). (Ok l, bench after (before ++ take count then))) (left_is (ap (λ (w : RecordPlayed). w.0) is)) ∙ ap {B = Stepped} (λ (p : PartState). (Ok left, bench p (before ++ take count then))) (ap (λ (w : RecordPlayed). w.1) is) ∙ ap {B = Stepped} (λ (l : List ℕ). (Ok left, bench b.part (before ++ l))) taken
     where
       both : ◌≡◌ {A = Result (ℕ × List ℕ) RecordFault} (Ok (count, rest)) (Ok (length b.printed, left)) → ◌≡◌ {A = ℕ × List ℕ} (count, rest) (length b.printed, left)
       both e = cc
@@ -117,27 +117,27 @@ module _ (bytes : List ℕ) (part after : PartState) (before line then : List �
 
       left_is : ◌≡◌ {A = Result (ℕ × List ℕ) RecordFault} (Ok (count, rest)) (Ok (length b.printed, left)) → rest ≡ left
       left_is e = ap (λ (p : ℕ × List ℕ). p.1) (both e)
-  step_taken (Err fault, b) count rest is = absurd (never (ap (λ (w : Played). w.0) is))
+  step_taken (Err fault, b) count rest is = absurd (never (ap (λ (w : RecordPlayed). w.0) is))
     where
       never : ◌≡◌ {A = Result (ℕ × List ℕ) RecordFault} (Ok (count, rest)) (Err fault) → ⊥
       never e = cc
 
-  pub step_done : (count : ℕ) (rest : List ℕ) → ◌≡◌ {A = Played} (Ok (count, rest), after, then) (play_one bytes part line) → ◌≡◌ {A = Stepped} (Ok rest, bench after (before ++ take count then)) (one_record bytes (bench part before))
+  pub step_done : (count : ℕ) (rest : List ℕ) → ◌≡◌ {A = RecordPlayed} (Ok (count, rest), after, then) (play_one bytes part line) → ◌≡◌ {A = Stepped} (Ok rest, bench after (before ++ take count then)) (one_record bytes (bench part before))
   step_done count rest is = step_taken (one_record bytes (bench part [])) count rest is ∙ sym (step_behind bytes part before)
 
-  step_stopped : (did : Stepped) (fault : RecordFault) → Quiet did → ◌≡◌ {A = Played} (Err fault, after, then) (count_step did line) → ◌≡◌ {A = Stepped} (Err fault, bench after before) (behind before did)
+  step_stopped : (did : Stepped) (fault : RecordFault) → Quiet did → ◌≡◌ {A = RecordPlayed} (Err fault, after, then) (count_step did line) → ◌≡◌ {A = Stepped} (Err fault, bench after before) (behind before did)
   unfolding Quiet
-  step_stopped (Ok left, b) fault quiet is = absurd (never (ap (λ (w : Played). w.0) is))
+  step_stopped (Ok left, b) fault quiet is = absurd (never (ap (λ (w : RecordPlayed). w.0) is))
     where
       never : ◌≡◌ {A = Result (ℕ × List ℕ) RecordFault} (Err fault) (Ok (length b.printed, left)) → ⊥
       never e = cc
   step_stopped (Err other, b) fault quiet is =
-      ap {B = Stepped} (λ (f : RecordFault). (Err f, bench after before)) (same (ap (λ (w : Played). w.0) is)) ∙ ap {B = Stepped} (λ (p : PartState). (Err other, bench p before)) (ap (λ (w : Played). w.1) is) ∙ ap {B = Stepped} (λ (l : List ℕ). (Err other, bench b.part l)) (sym (append-nil before) ∙ ap (λ l. before ++ l) (sym (quiet other refl)))
+      ap {B = Stepped} (λ (f : RecordFault). (Err f, bench after before)) (same (ap (λ (w : RecordPlayed). w.0) is)) ∙ ap {B = Stepped} (λ (p : PartState). (Err other, bench p before)) (ap (λ (w : RecordPlayed). w.1) is) ∙ ap {B = Stepped} (λ (l : List ℕ). (Err other, bench b.part l)) (sym (append-nil before) ∙ ap (λ l. before ++ l) (sym (quiet other refl)))
     where
       same : ◌≡◌ {A = Result (ℕ × List ℕ) RecordFault} (Err fault) (Err other) → fault ≡ other
       same e = cc
 
-  pub step_refused : (fault : RecordFault) → ◌≡◌ {A = Played} (Err fault, after, then) (play_one bytes part line) → ◌≡◌ {A = Stepped} (Err fault, bench after before) (one_record bytes (bench part before))
+  pub step_refused : (fault : RecordFault) → ◌≡◌ {A = RecordPlayed} (Err fault, after, then) (play_one bytes part line) → ◌≡◌ {A = Stepped} (Err fault, bench after before) (one_record bytes (bench part before))
   step_refused fault is = step_stopped (one_record bytes (bench part [])) fault (step_quiet bytes part) is ∙ sym (step_behind bytes part before)
 
 -- a part's answer to a record as the tape's step hands it on
@@ -147,13 +147,13 @@ handed_on rest (Err refusal) = Err (of_part refusal)
 
 -- A record that was read is done by itself.
 module _ (bytes rest : List ℕ) (r : Record) (part after : PartState) (line then : List ℕ) (answer : Result ℕ Refusal) where
-  by_done : (did : Done) → ◌≡◌ {A = Played} (handed_on rest (count_printed did line).0, (count_printed did line).1, (count_printed did line).2) (count_step (done_before rest did) line)
+  by_done : (did : Done) → ◌≡◌ {A = RecordPlayed} (handed_on rest (count_printed did line).0, (count_printed did line).1, (count_printed did line).2) (count_step (done_before rest did) line)
   by_done (Ok done, b) = refl
   by_done (Err why, b) = refl
 
-  pub record_handed_on : ◌≡◌ {A = RecordRead} (Ok (r, rest)) (read_record bytes) → ◌≡◌ {A = Result ℕ Refusal × PartState × List ℕ} (answer, after, then) (perform_record r part line) → ◌≡◌ {A = Played} (handed_on rest answer, after, then) (play_one bytes part line)
+  pub record_handed_on : ◌≡◌ {A = RecordRead} (Ok (r, rest)) (read_record bytes) → ◌≡◌ {A = Result ℕ Refusal × PartState × List ℕ} (answer, after, then) (perform_record r part line) → ◌≡◌ {A = RecordPlayed} (handed_on rest answer, after, then) (play_one bytes part line)
   record_handed_on read did =
-      ap {B = Played} (λ (w : Result ℕ Refusal × PartState × List ℕ). (handed_on rest w.0, w.1, w.2)) did ∙ by_done (do_record r (bench part [])) ∙ ap (λ (x : RecordRead). count_step (do_read x (bench part [])) line) read
+      ap {B = RecordPlayed} (λ (w : Result ℕ Refusal × PartState × List ℕ). (handed_on rest w.0, w.1, w.2)) did ∙ by_done (do_record r (bench part [])) ∙ ap (λ (x : RecordRead). count_step (do_read x (bench part [])) line) read
 
 -- a tape that is not at its end has bytes left
 pub some_left : (rest : List ℕ) (empty : Bool) → empty ≡ eqb (length rest) 0 → empty ≡ false → 0 < length rest

@@ -90,21 +90,23 @@ with_count count (Err fault) = Err fault
 abbrev pub in_front : List ℕ → List ℕ → List ℕ
 in_front text buffer = text ++ drop (length text) buffer
 
--- A record done by itself: how many bytes it prints, the part, and the line at whose front they stand.
+-- A record done by itself: how many bytes it prints, the part, and the line with them at its front.
 abbrev pub count_printed : Done → List ℕ → Result ℕ Refusal × PartState × List ℕ
-count_printed did line = (printed_count (length did.1.printed) did.0, did.1.part, in_front did.1.printed line)
+count_printed did line =
+    (printed_count (length did.1.printed) did.0, did.1.part, in_front did.1.printed line)
 
 abbrev pub perform_record : Record → PartState → List ℕ → Result ℕ Refusal × PartState × List ℕ
 perform_record r part line = count_printed (do_record r (bench part [])) line
 
--- One record of a tape played by itself: what it prints, the rest of the tape, the part and the line.
-abbrev pub Played : Type 0
-Played = Result (ℕ × List ℕ) RecordFault × PartState × List ℕ
+-- One record of a tape played by itself: what it prints, the rest of the tape, part and line.
+abbrev pub RecordPlayed : Type 0
+RecordPlayed = Result (ℕ × List ℕ) RecordFault × PartState × List ℕ
 
-abbrev pub count_step : Stepped → List ℕ → Played
-count_step did line = (with_count (length did.1.printed) did.0, did.1.part, in_front did.1.printed line)
+abbrev pub count_step : Stepped → List ℕ → RecordPlayed
+count_step did line =
+    (with_count (length did.1.printed) did.0, did.1.part, in_front did.1.printed line)
 
-abbrev pub play_one : List ℕ → PartState → List ℕ → Played
+abbrev pub play_one : List ℕ → PartState → List ℕ → RecordPlayed
 play_one bytes part line = count_step (one_record bytes (bench part [])) line
 
 -- what the code answers, with the bytes that it points to

@@ -15,8 +15,8 @@ too_long = record { refusal = TapeTooLong; place = 4096; origin = Tape }
 abbrev pub play_tape : List ℕ → PartState → Outcome
 play_tape tape part = cond (nat_lt 4096 (length tape)) (Err too_long, bench part []) (play_rest (length tape) tape (bench part []))
 
--- The room that a tape is given: 27 bytes for each of its bytes, as a print record has two and prints at most 54.
--- Too long a tape is given none.
+-- The room that a tape is given: 27 bytes for each of its bytes, as a print record has two and
+-- prints at most 54. Too long a tape is given none.
 abbrev pub room_for : List ℕ → ℕ
 room_for tape = cond (nat_lt 4096 (length tape)) 0 (27 * length tape)
 

@@ -18,7 +18,8 @@ const TWENTY_FOUR_HOURS: u32 = 1;
 
 // Loads a moment with the weekday that follows from it, trim 0 and 24 hours.
 fn load(moment: u64, part: &mut Rx5c348a) -> Result<(), Refusal>
-    ensures { (result, seen part.new) ≡ load_part (seen part.old) moment (tape_weekday moment) 0 1 }
+    ensures { (result, seen part.new)
+        ≡ load_part (seen part.old) moment (tape_weekday moment) 0 1 }
 {
     let weekday = (moment / 86_400 % 7) as u32;
     part.load(Setting {
@@ -46,9 +47,11 @@ fn print(number: u64, part: &Rx5c348a, line: &mut [u8; 64]) -> Result<usize, Ref
     record_line(number, &part.registers(), line)
 }
 
-// Does what a record asks for, and puts what it prints at the front of a line; answers how many bytes that are.
+// Does what a record asks for, and puts what it prints at the front of a line. Answers how many
+// bytes that are.
 fn perform(record: Record, part: &mut Rx5c348a, line: &mut [u8; 64]) -> Result<usize, Refusal>
-    ensures does { (result, seen part.new, line.new) ≡ perform_record «record» (seen part.old) line.old }
+    ensures does { (result, seen part.new, line.new)
+        ≡ perform_record «record» (seen part.old) line.old }
     ensures short { IfOk result (λ count. count ≤ 54) }
 {
     match record {
@@ -60,14 +63,15 @@ fn perform(record: Record, part: &mut Rx5c348a, line: &mut [u8; 64]) -> Result<u
     Ok(0)
 }
 
-/// One record is taken off the front of a tape and done on the part. What it prints is put at the front of `line`.
-/// Answers how many bytes it prints, and the rest of the tape. It needs no heap.
+/// Takes one record off the front of a tape and does it on the part. What it prints is put at the
+/// front of `line`. Answers how many bytes that are, and the rest of the tape. It needs no heap.
 pub fn play_record<'t>(
     tape: &'t [u8],
     part: &mut Rx5c348a,
     line: &mut [u8; 64],
 ) -> Result<(usize, &'t [u8]), RecordFault>
-    ensures does { (step_view result, seen part.new, line.new) ≡ play_one tape.now (seen part.old) line.old }
+    ensures does { (step_view result, seen part.new, line.new)
+        ≡ play_one tape.now (seen part.old) line.old }
     ensures short { IfOk result (λ step. step.0 ≤ 54) }
     ensures shorter { IfOk result (λ step. length step.1.now + 2 ≤ length tape.now) }
 {
@@ -101,7 +105,11 @@ struct Playing<'t> {
 impl Playing<'_> {
     // Plays the next record.
     fn step(&mut self, part: &mut Rx5c348a) -> Result<(), RecordFault>
-        ensures does { (rest_after_step result self.new.rest.now, bench (seen part.new) self.new.printed.items) ≡ one_record self.old.rest.now (bench (seen part.old) self.old.printed.items) }
+        ensures does { (
+          rest_after_step result self.new.rest.now,
+          bench (seen part.new) self.new.printed.items,
+        )
+            ≡ one_record self.old.rest.now (bench (seen part.old) self.old.printed.items) }
         ensures shorter { OnOk result (length self.new.rest.now < length self.old.rest.now) }
         ensures room { vec_capacity self.new.printed ≡ vec_capacity self.old.printed }
     {
@@ -114,7 +122,12 @@ impl Playing<'_> {
 
     // The same, of a record at a place, which a fault is given.
     fn step_at(&mut self, place: usize, part: &mut Rx5c348a) -> Result<(), TapeFault>
-        ensures does { (rest_after_step result self.new.rest.now, bench (seen part.new) self.new.printed.items) ≡ with_place place (one_record self.old.rest.now (bench (seen part.old) self.old.printed.items)) }
+        ensures does { (
+          rest_after_step result self.new.rest.now,
+          bench (seen part.new) self.new.printed.items,
+        )
+            ≡ with_place place
+            (one_record self.old.rest.now (bench (seen part.old) self.old.printed.items)) }
         ensures shorter { OnOk result (length self.new.rest.now < length self.old.rest.now) }
         ensures room { vec_capacity self.new.printed ≡ vec_capacity self.old.printed }
     {
@@ -123,7 +136,9 @@ impl Playing<'_> {
 
     // The records, one after the other, until the tape ends or one is refused.
     fn run(&mut self, part: &mut Rx5c348a) -> Result<(), TapeFault>
-        ensures does { (result, bench (seen part.new) self.new.printed.items) ≡ play_rest (length self.old.rest.now) self.old.rest.now (bench (seen part.old) self.old.printed.items) }
+        ensures does { (result, bench (seen part.new) self.new.printed.items)
+            ≡ play_rest (length self.old.rest.now) self.old.rest.now
+            (bench (seen part.old) self.old.printed.items) }
         ensures room { vec_capacity self.new.printed ≡ vec_capacity self.old.printed }
     {
         let total = self.rest.len();
@@ -158,7 +173,8 @@ pub struct ReadyTape<'t> {
 }
 
 impl<'t> ReadyTape<'t> {
-    /// Takes 27 bytes for each byte of the tape, and none for one that is too long. Fails where these are not to be had.
+    /// Takes 27 bytes for each byte of the tape, and none for one that is too long. Fails where these
+    /// are not to be had.
     pub fn new(heap: Global, tape: &'t [u8]) -> Result<ReadyTape<'t>, AllocError>
         ensures tape { IfOk result (λ ready. ready.bytes.now ≡ tape.now) }
         ensures room { IfOk result (λ ready. vec_capacity ready.printed ≡ room_for tape.now) }
@@ -174,11 +190,13 @@ impl<'t> ReadyTape<'t> {
         })
     }
 
-    /// Plays the tape on a part.
-    /// `does` gives the outcome for every tape; `in_order` says what that means for the records that a tape is written with.
+    /// Plays the tape on a part. `does` gives the outcome for every tape; `in_order` says what that
+    /// means for the records that a tape is written with.
     pub fn play(self, part: &mut Rx5c348a) -> Playback
-        ensures does { played result (seen part.new) ≡ play_tape self.entry.bytes.now (seen part.old) }
-        ensures in_order { InOrder self.entry.bytes.now (seen part.old) (played result (seen part.new)) }
+        ensures does { played result (seen part.new)
+            ≡ play_tape self.entry.bytes.now (seen part.old) }
+        ensures in_order { InOrder self.entry.bytes.now (seen part.old)
+            (played result (seen part.new)) }
         ensures room { vec_capacity result.printed ≡ vec_capacity self.entry.printed }
     {
         let ReadyTape { bytes, printed } = self;
@@ -197,7 +215,7 @@ fn play_in_order(tape: &[u8], printed: Vec<u8>, part: &mut Rx5c348a) -> Playback
     play_bytes(tape, printed, part)
 }
 
-// Refuses a tape that is too long; runs any other. Apart, so that the proof of the order does not open it.
+// Refuses a tape that is too long; runs any other.
 fn play_bytes(tape: &[u8], printed: Vec<u8>, part: &mut Rx5c348a) -> Playback
     requires unplayed { vec_len printed ≡ 0 }
     requires room { length tape.now ≤ 4096 → 27 * length tape.now ≤ vec_capacity printed }

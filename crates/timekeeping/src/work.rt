@@ -49,7 +49,7 @@ fn work_into<T, C: Call<T>>(thing: &mut T, call: C, answer: &mut Result<C::Answe
     *answer = call.call(thing);
 }
 
-// The calls by number: a pair of iterators would not say which answer stands where.
+// Call and answer by their place in the row.
 fn work_in_turn<T, C: Call<T>>(
     thing: &mut T,
     calls: &[C],

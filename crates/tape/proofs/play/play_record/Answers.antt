@@ -2,7 +2,7 @@ use Rattle.std.proofs.Common.{Err, ap, ◌∙◌}
 use Rattle.std.proofs.lemmas.Result.{err_from_is_err_and}
 use Rattle.rx5c348a.specs.Part.{seen}
 use Rattle.tape.specs.declared.fault.RecordFault.{RecordFault}
-use Rattle.tape.specs.Playing.{Played, step_view}
+use Rattle.tape.specs.Playing.{RecordPlayed, step_view}
 use Rattle.tape.proofs.Stepping.{record_handed_on}
 use Rattle.tape.proofs.play.play_record.Goals as goal
 
@@ -12,4 +12,4 @@ returns-in_err-printed-clause-does c =
     let p = err_from_is_err_and result.result result.ensures.1 in
     let after = seen c.perform.new.part in
     let line = c.perform.new.line in
-    ap {B = Played} (λ r. (step_view r, after, line)) p.1 ∙ ap {B = Played} (λ (f : RecordFault). (Err f, after, line)) p.2 ∙ record_handed_on c.args.tape.now c.in_ok-record.rest.now c.in_ok-record.record (seen c.args.part.now) after c.args.line.now line _ c.in_ok-record.ensures.reads c.in_err-printed.ensures.does
+    ap {B = RecordPlayed} (λ r. (step_view r, after, line)) p.1 ∙ ap {B = RecordPlayed} (λ (f : RecordFault). (Err f, after, line)) p.2 ∙ record_handed_on c.args.tape.now c.in_ok-record.rest.now c.in_ok-record.record (seen c.args.part.now) after c.args.line.now line _ c.in_ok-record.ensures.reads c.in_err-printed.ensures.does
