@@ -12,6 +12,7 @@ use Rattle.clock_core.specs.Core.{CoreState}
 use Rattle.rx5c_registers.specs.File.{registers}
 use Rattle.rx5c_registers.proofs.Rows.{lower_register}
 use Rattle.rx5c348a.specs.Part.{PartState}
+use Rattle.rx5c348a.specs.Pins.{move_of}
 use Rattle.timekeeping.specs.Logs.{Gave, Stretch, sights_after, is_release, Log, log_of, state_after, Undisturbed, ShortStretches, is_write}
 use Rattle.timekeeping.specs.Law.{NewlyMade}
 use Rattle.timekeeping.proofs.Heard.{Truly, truly_with, all_earlier, short_earlier, open_stretch}
@@ -119,10 +120,7 @@ module _ (start : PartState) (rest : AtRest start) (new : NewlyMade byte_chart s
         out = r.out;
         reads = ap (λ (q : PartState). q.phase) at ∙ ap (λ (b : ℕ). ReadData cell r.burst 7 b r.out) row;
         selected = ap (λ (q : PartState). q.ce) at;
-        low = ap (λ (q : PartState). q.sclk) at;
-        no_others = omega arith;
-        stays_selected = refl;
-        rises = refl;
+        rises = ap (λ (q : PartState). move_of q.ce q.sclk 6) at;
         in_calendar = less;
       } in
       record {

@@ -1,5 +1,5 @@
--- The four wires: what each change of CE and SCLK does, and what pin levels answer and leave.
-use Rattle.std.specs.Prelude.{ℕ, Bool, true, false, cond, not, ◌&&◌, Some, None, Ok, Err, Option, Result, bit_and, nat_lt, slice_index}
+-- The four wires: which move new levels are, what each move does, and what pin levels answer and leave.
+use Rattle.std.specs.Prelude.{◌≡◌, ℕ, ◌<◌, ◌≤◌, Bool, true, false, cond, not, ◌&&◌, Some, None, Ok, Err, Option, Result, bit_and, nat_lt, slice_index}
 use Rattle.refusals.specs.declared.Refusal.{Refusal}
 use Rattle.refusals.specs.declared.Refusal.TheVariants.{NoSuchLevels, TwoPinsChange}
 use Rattle.serial_transfer.specs.declared.phase.Phase.TheVariants.{Idle}
@@ -10,6 +10,8 @@ use Rattle.rx5c_registers.specs.Clock.{held, released}
 use Rattle.rx5c348a.specs.declared.pins.Level.{Level}
 use Rattle.rx5c348a.specs.declared.pins.Level.TheVariants.{Low, High}
 use Rattle.rx5c348a.specs.declared.pins.PinAnswer.{PinAnswer}
+use Rattle.rx5c348a.specs.declared.pins.PinMove.{PinMove}
+use Rattle.rx5c348a.specs.declared.pins.PinMove.TheVariants.{Still, CeRises, CeFalls, SclkRises, SclkFalls}
 use Rattle.rx5c348a.specs.Part.{PartState}
 
 -- a level as a number
@@ -57,19 +59,62 @@ abbrev pub differ : Bool → Bool → Bool
 differ true b = not b
 differ false b = b
 
--- New levels, of which CE or SCLK may have changed.
-abbrev pub driven : PartState → Bool → Bool → ℕ → PartState
-driven p ce sclk si =
-    cond (differ ce p.ce) (cond ce (ce_risen p) (ce_fallen p))
-    (cond (differ sclk p.sclk) (cond sclk (sclk_risen p) (sclk_fallen p si)) p)
+-- CE or SCLK as it goes to a level
+abbrev pub ce_to : Bool → PinMove
+ce_to true = CeRises
+ce_to false = CeFalls
 
--- The levels in one number: CE weighs 4, SCLK 2 and SI 1.
-abbrev pub levels_taken : PartState → ℕ → Result PinAnswer Refusal × PartState
-levels_taken p levels =
-    cond (nat_lt 7 levels) (Err NoSuchLevels, p)
-    (cond (differ (has levels 4) p.ce && differ (has levels 2) p.sclk) (Err TwoPinsChange, p)
-    (Ok (answer_in (driven p (has levels 4) (has levels 2) (bit_and levels 1))), driven p (has levels 4) (has levels 2) (bit_and levels 1)))
+abbrev pub sclk_to : Bool → ℕ → PinMove
+sclk_to true si = SclkRises
+sclk_to false si = SclkFalls si
 
--- the same, shut, as the contract names it
+-- What new levels do, or why they are refused.
+abbrev pub Move : Type 0
+Move = Result PinMove Refusal
+
+-- the move from CE and SCLK as they stand to their new levels, with a bit on SI
+abbrev pub move_between : Bool → Bool → Bool → Bool → ℕ → Move
+move_between ce sclk new_ce new_sclk si =
+    cond (differ new_ce ce)
+    (cond (differ new_sclk sclk) (Err TwoPinsChange) (Ok (ce_to new_ce)))
+    (cond (differ new_sclk sclk) (Ok (sclk_to new_sclk si)) (Ok Still))
+
+-- The levels in one number, with CE and SCLK as they stand: CE weighs 4, SCLK 2 and SI 1.
+abbrev pub move_of : Bool → Bool → ℕ → Move
+move_of ce sclk levels =
+    cond (nat_lt 7 levels) (Err NoSuchLevels)
+    (move_between ce sclk (has levels 4) (has levels 2) (bit_and levels 1))
+
+-- Levels that are known, with CE and SCLK as the number gives them.
+pub record Gives (levels : ℕ) (ce sclk : Bool) : Type 0 where
+  pub known : levels ≤ 7
+  pub ce_is : has levels 4 ≡ ce
+  pub sclk_is : has levels 2 ≡ sclk
+
+-- What each move says of the levels, over CE and SCLK as they stood.
+abbrev pub Tells : Bool → Bool → ℕ → Move → Type 0
+Tells ce sclk levels (Ok Still) = Gives levels ce sclk
+Tells ce sclk levels (Ok CeRises) = (ce ≡ false) × Gives levels true sclk
+Tells ce sclk levels (Ok CeFalls) = (ce ≡ true) × Gives levels false sclk
+Tells ce sclk levels (Ok SclkRises) = (sclk ≡ false) × Gives levels ce true
+Tells ce sclk levels (Ok (SclkFalls si)) = (sclk ≡ true) × Gives levels ce false × (si ≡ bit_and levels 1)
+Tells ce sclk levels (Err TwoPinsChange) = Gives levels (not ce) (not sclk)
+Tells ce sclk levels (Err NoSuchLevels) = 7 < levels
+Tells ce sclk levels (Err _) = ⊥
+
+-- What a move does to a part.
+abbrev pub moved : PartState → PinMove → PartState
+moved p Still = p
+moved p CeRises = ce_risen p
+moved p CeFalls = ce_fallen p
+moved p SclkRises = sclk_risen p
+moved p (SclkFalls si) = sclk_fallen p si
+
+-- What a part answers to a move, and the part after it. A refused one leaves it as it was.
+abbrev pub move_made : PartState → Move → Result PinAnswer Refusal × PartState
+move_made p (Err why) = (Err why, p)
+move_made p (Ok pin_move) = (Ok (answer_in (moved p pin_move)), moved p pin_move)
+
+-- What levels answer and leave, shut, as the contract names it.
 unfoldable pub pins_part : PartState → ℕ → Result PinAnswer Refusal × PartState
-pins_part p levels = levels_taken p levels
+pins_part p levels = move_made p (move_of p.ce p.sclk levels)

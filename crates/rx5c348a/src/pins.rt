@@ -1,6 +1,6 @@
 // The four wires and /INTR.
 ghost use Rattle.std.specs.Prelude.{◌≡◌};
-ghost use Rattle.rx5c348a.specs.Pins.{answer_in, level_number, awaits_header, ce_risen, ce_fallen, sclk_risen, sclk_fallen, driven, pins_part};
+ghost use Rattle.rx5c348a.specs.Pins.{answer_in, level_number, awaits_header, ce_risen, ce_fallen, sclk_risen, sclk_fallen, move_of, Tells, moved, pins_part};
 ghost use Rattle.rx5c348a.specs.Part.{seen};
 
 use crate::part::Rx5c348a;
@@ -30,6 +30,18 @@ impl From<Level> for u8 {
             Level::High => 1,
         }
     }
+}
+
+// What new levels of the pins do, where they are not refused.
+#[derive(Clone, Copy, PartialEq, Eq, Debug)]
+pub enum PinMove {
+    // neither CE nor SCLK changes
+    Still,
+    CeRises,
+    CeFalls,
+    SclkRises,
+    // with the bit that stands on SI
+    SclkFalls(u8),
 }
 
 // What a part answers to pin levels.
@@ -101,22 +113,36 @@ impl Rx5c348a {
         }
     }
 
-    // At most one of CE and SCLK changes.
-    fn drive(&mut self, ce: bool, sclk: bool, si: u8)
-        ensures { seen self.new ≡ driven (seen self.old) ce sclk si }
+    // What levels do to the pins as they stand. Two changes at once would leave open which came first.
+    #[tactic(auto, using(crate::proofs::Moves::tells))]
+    fn move_to(&self, levels: u64) -> Result<PinMove, Refusal>
+        ensures value { result ≡ move_of self.now.ce self.now.sclk levels }
+        ensures told { Tells self.now.ce self.now.sclk levels result }
     {
-        if ce != self.ce {
-            if ce {
-                self.ce_rises();
-            } else {
-                self.ce_falls();
-            }
-        } else if sclk != self.sclk {
-            if sclk {
-                self.sclk_rises();
-            } else {
-                self.sclk_falls(si);
-            }
+        if levels > CE + SCLK + SI {
+            return Err(Refusal::NoSuchLevels);
+        }
+        let ce = levels & CE != 0;
+        let sclk = levels & SCLK != 0;
+        match (ce != self.ce, sclk != self.sclk) {
+            (true, true) => Err(Refusal::TwoPinsChange),
+            (true, false) if ce => Ok(PinMove::CeRises),
+            (true, false) => Ok(PinMove::CeFalls),
+            (false, true) if sclk => Ok(PinMove::SclkRises),
+            (false, true) => Ok(PinMove::SclkFalls((levels & SI) as u8)),
+            (false, false) => Ok(PinMove::Still),
+        }
+    }
+
+    fn make(&mut self, pin_move: PinMove)
+        ensures { seen self.new ≡ moved (seen self.old) pin_move }
+    {
+        match pin_move {
+            PinMove::Still => {}
+            PinMove::CeRises => self.ce_rises(),
+            PinMove::CeFalls => self.ce_falls(),
+            PinMove::SclkRises => self.sclk_rises(),
+            PinMove::SclkFalls(si) => self.sclk_falls(si),
         }
     }
 
@@ -125,15 +151,8 @@ impl Rx5c348a {
     pub fn pins(&mut self, levels: u64) -> Result<PinAnswer, Refusal>
         ensures { (result, seen self.new) ≡ pins_part (seen self.old) levels }
     {
-        if levels > CE + SCLK + SI {
-            return Err(Refusal::NoSuchLevels);
-        }
-        let ce = levels & CE != 0;
-        let sclk = levels & SCLK != 0;
-        if ce != self.ce && sclk != self.sclk {
-            return Err(Refusal::TwoPinsChange);
-        }
-        self.drive(ce, sclk, (levels & SI) as u8);
+        let pin_move = self.move_to(levels)?;
+        self.make(pin_move);
         Ok(self.answer())
     }
 }

@@ -1,6 +1,5 @@
 -- A 348A is true to its sights, and so keeps time.
-use Rattle.std.proofs.Common.{◌≡◌, ℕ, Bool, true, false, cond, ltb, List, [], ◌∷◌, get_or, Some, None, Ok, Err, Option, sym, refl, ap, ◌∙◌, subst, ap₂, arith, ltb-true}
-use lib.Bits.{bit_and}
+use Rattle.std.proofs.Common.{◌≡◌, ℕ, Bool, true, false, cond, ltb, List, [], ◌∷◌, get_or, Some, None, Ok, Err, Option, sym, refl, ap, ◌∙◌, subst, arith, ltb-true}
 use Rattle.refusals.specs.declared.Refusal.{Refusal}
 use Rattle.refusals.specs.declared.Refusal.TheVariants.{TooManyPulses, ShortBuffer}
 use Rattle.register_map.specs.declared.hour_mode.HourMode.{HourMode}
@@ -9,7 +8,7 @@ use Rattle.byte_map.specs.Cells.{byte_chart}
 use Rattle.byte_map.specs.RowLaws.{byte_chart_lawful}
 use Rattle.clock_core.specs.declared.setting.Setting.{Setting}
 use Rattle.clock_core.specs.Core.{CoreState, Accepted as Acceptance, loaded, load_refusal, unless_refused}
-use Rattle.rx5c_registers.specs.File.{FileState, registers, has}
+use Rattle.rx5c_registers.specs.File.{FileState, registers}
 use Rattle.rx5c_registers.specs.Clock as clock
 use Rattle.clock_core.proofs.Effects.{pulses_held, pulses_map}
 use Rattle.rx5c_registers.proofs.Effects.{taken_core}
@@ -43,17 +42,37 @@ sound_new s new =
     let made : s.map ≡ new.map = ap (λ (t : CoreState). t.map) new.made in
     subst Sound (sym made) (subst (λ (cells : List ℕ). Sound (map_state cells new.map.mode)) coded.0 (sound_code new.map.mode new.shown coded.1))
 
+-- at rest with a newly made core the notes begin
+pub begins : (start : PartState) → AtRest start → NewlyMade byte_chart start.file.core → Tracks silent start
+begins start rest new =
+    record {
+      ce = rest.unselected;
+      sclk = rest.low;
+      held = ap (λ (s : CoreState). s.held) new.made;
+      few = omega arith;
+      sound = sound_new start.file.core new;
+      phase = rest.quiet;
+    }
+
+-- where the law begins
+loaded_by : (p : PartState) (moment weekday trim o : ℕ) (why : Option Refusal) → load_refusal byte_chart moment weekday trim o ≡ why → ◌≡◌ {A = Acceptance} (after_load p (clock.after_load p.file (unless_refused p.file.core (loaded byte_chart moment weekday trim o) why))).0 (Ok tt) → Loaded (after_load p (clock.after_load p.file (unless_refused p.file.core (loaded byte_chart moment weekday trim o) why))).1
+loaded_by p moment weekday trim o None is h =
+    let accepted : ◌≡◌ {A = Acceptance} (unless_refused p.file.core (loaded byte_chart moment weekday trim o) (load_refusal byte_chart moment weekday trim o)).0 (Ok tt) =
+    ap (λ (w : Option Refusal). (unless_refused p.file.core (loaded byte_chart moment weekday trim o) w).0) is in
+    let new = loads_new byte_chart byte_chart_lawful p.file.core moment weekday trim o accepted in
+    let core : (unless_refused p.file.core (loaded byte_chart moment weekday trim o) (load_refusal byte_chart moment weekday trim o)).1 ≡ loaded byte_chart moment weekday trim o =
+    ap (λ (w : Option Refusal). (unless_refused p.file.core (loaded byte_chart moment weekday trim o) w).1) is in
+    record { at_rest = record { unselected = refl; low = refl; quiet = refl }; new = subst (NewlyMade byte_chart) core new }
+loaded_by p moment weekday trim o (Some why) is h = let z : ◌≡◌ {A = ℕ} 0 1 = cc in absurd (omega arith)
+
+pub loaded_is_new : LoadedIsNew
+unfolding load_part
+loaded_is_new p moment weekday trim o h = loaded_by p moment weekday trim o (load_refusal byte_chart moment weekday trim o) refl h
+
 module _ (mode : HourMode) (e : Notes) (p : PartState) (t : Tracks e p) where
   step_pins : (levels : ℕ) → Step mode e p (Pins levels)
   unfolding pins_part
-  step_pins levels =
-      let same : p ≡ record { file = p.file; ce = e.ce; sclk = e.sclk; phase = p.phase } =
-      ap₂ (λ (c k : Bool). record { file = p.file; ce = c; sclk = k; phase = p.phase }) t.ce t.sclk in
-      let tracked : Tracks e (record { file = p.file; ce = e.ce; sclk = e.sclk; phase = p.phase }) =
-      record { ce = refl; sclk = refl; held = t.held; few = t.few; sound = t.sound; phase = t.phase } in
-      let step =
-      pins_step mode p.file (ltb 7 levels) e.ce e.sclk (has levels 4) (has levels 2) e.next e.si e.so p.phase tracked (bit_and levels 1) in
-      subst (λ (q : PartState). Step mode e q (Pins levels)) (sym same) (record { tracks = step.tracks; acts = step.acts })
+  step_pins levels = let step = pins_step e p t mode levels in record { tracks = step.tracks; acts = step.acts }
 
   -- the phase stays as it was while the cells do
   phase_stays : (ce : Bool) (cells row : List ℕ) → (ce ≡ true → row ≡ cells) → PhaseBy ce cells e.sclk e.next e.si e.so p.phase → PhaseBy ce row e.sclk e.next e.si e.so p.phase
@@ -93,19 +112,7 @@ module _ (mode : HourMode) (e : Notes) (p : PartState) (t : Tracks e p) where
 
   load_tracked : (moment weekday trim o : ℕ) (why : Option Refusal) → load_refusal byte_chart moment weekday trim o ≡ why → Tracks (load_noted (acceptance (after_loading moment weekday trim o why).0) e) (after_loading moment weekday trim o why).1
   load_tracked moment weekday trim o None is =
-      let accepted : ◌≡◌ {A = Acceptance} (unless_refused p.file.core (loaded byte_chart moment weekday trim o) (load_refusal byte_chart moment weekday trim o)).0 (Ok tt) =
-      ap (λ (w : Option Refusal). (unless_refused p.file.core (loaded byte_chart moment weekday trim o) w).0) is in
-      let new = loads_new byte_chart byte_chart_lawful p.file.core moment weekday trim o accepted in
-      let core : (unless_refused p.file.core (loaded byte_chart moment weekday trim o) (load_refusal byte_chart moment weekday trim o)).1 ≡ loaded byte_chart moment weekday trim o =
-      ap (λ (w : Option Refusal). (unless_refused p.file.core (loaded byte_chart moment weekday trim o) w).1) is in
-      record {
-        ce = refl;
-        sclk = refl;
-        held = refl;
-        few = omega arith;
-        sound = sound_new (loaded byte_chart moment weekday trim o) (subst (NewlyMade byte_chart) core new);
-        phase = refl;
-      }
+      let new = loaded_by p moment weekday trim o None is refl in begins _ new.at_rest new.new
   load_tracked moment weekday trim o (Some why) is = t
 
   load_acts : (moment weekday trim o : ℕ) (why : Option Refusal) → Acts byte_chart mode (load_sight (acceptance (after_loading moment weekday trim o why).0)) p.file.core (after_loading moment weekday trim o why).1.file.core
@@ -156,34 +163,7 @@ part_true start t mode h log heard =
     let step = step_call mode (notes log) p (tracked mode start t log heard.1) h.call in
     subst (λ (a : Answered). Acts byte_chart mode (call_sight mode (notes log) h.call a) p.file.core (do_call p h.call).1.file.core) (sym heard.0) step.acts
 
--- at rest with a newly made core the notes begin
-pub begins : (start : PartState) → AtRest start → NewlyMade byte_chart start.file.core → Tracks silent start
-begins start rest new =
-    record {
-      ce = rest.unselected;
-      sclk = rest.low;
-      held = ap (λ (s : CoreState). s.held) new.made;
-      few = omega arith;
-      sound = sound_new start.file.core new;
-      phase = rest.quiet;
-    }
-
 -- the law for every list of calls on a part
 pub part_law : (start : PartState) → AtRest start → (calls : List WireCall) → KeepsTime part_machine byte_chart start calls
 part_law start rest calls =
     the_law part_machine byte_chart byte_chart_lawful start (λ new. part_true start (begins start rest new) new.map.mode) calls
-
--- where the law begins
-loaded_by : (p : PartState) (moment weekday trim o : ℕ) (why : Option Refusal) → load_refusal byte_chart moment weekday trim o ≡ why → ◌≡◌ {A = Acceptance} (after_load p (clock.after_load p.file (unless_refused p.file.core (loaded byte_chart moment weekday trim o) why))).0 (Ok tt) → Loaded (after_load p (clock.after_load p.file (unless_refused p.file.core (loaded byte_chart moment weekday trim o) why))).1
-loaded_by p moment weekday trim o None is h =
-    let accepted : ◌≡◌ {A = Acceptance} (unless_refused p.file.core (loaded byte_chart moment weekday trim o) (load_refusal byte_chart moment weekday trim o)).0 (Ok tt) =
-    ap (λ (w : Option Refusal). (unless_refused p.file.core (loaded byte_chart moment weekday trim o) w).0) is in
-    let new = loads_new byte_chart byte_chart_lawful p.file.core moment weekday trim o accepted in
-    let core : (unless_refused p.file.core (loaded byte_chart moment weekday trim o) (load_refusal byte_chart moment weekday trim o)).1 ≡ loaded byte_chart moment weekday trim o =
-    ap (λ (w : Option Refusal). (unless_refused p.file.core (loaded byte_chart moment weekday trim o) w).1) is in
-    record { at_rest = record { unselected = refl; low = refl; quiet = refl }; new = subst (NewlyMade byte_chart) core new }
-loaded_by p moment weekday trim o (Some why) is h = let z : ◌≡◌ {A = ℕ} 0 1 = cc in absurd (omega arith)
-
-pub loaded_is_new : LoadedIsNew
-unfolding load_part
-loaded_is_new p moment weekday trim o h = loaded_by p moment weekday trim o (load_refusal byte_chart moment weekday trim o) refl h

@@ -23,50 +23,32 @@ filled byte (Some _) = Some byte
 filled byte None = None
 
 abbrev pub with_byte : ℕ → Sight → List (Option ℕ) → List (Option ℕ)
-with_byte byte (Took _) before = before
-with_byte byte Held before = before
-with_byte byte Released before = before
-with_byte byte Wrote before = before
 with_byte byte (Gave bytes) before = filled byte (bytes 0) ∷ before
-with_byte byte Nothing before = before
+with_byte byte _ before = before
 
 -- whether a sight leaves the map of a core alone, held or not
 abbrev still : Bool → Sight → Bool
 still held (Took _) = held
-still held Held = true
 still held Released = false
 still held Wrote = false
-still held (Gave _) = true
-still held Nothing = true
+still held _ = true
 
 -- whether it gives no cells
 abbrev gives_none : Sight → Bool
-gives_none (Took _) = true
-gives_none Held = true
-gives_none Released = true
-gives_none Wrote = true
 gives_none (Gave _) = false
-gives_none Nothing = true
+gives_none _ = true
 
 still_shape : (held : Bool) (x : Sight) → still held (shape x) ≡ still held x
-still_shape held (Took n) = refl
-still_shape held Held = refl
-still_shape held Released = refl
-still_shape held Wrote = refl
 still_shape held (Gave b) = refl
-still_shape held Nothing = refl
+still_shape held _ = refl
 
 filled_mark : (byte : ℕ) (o : Option ℕ) → ((v : ℕ) → o ≡ Some v → v ≡ byte) → o ≡ filled byte (mark o)
 filled_mark byte (Some v) is = ap Some (is v refl)
 filled_mark byte None is = refl
 
 gives_none_is : (x : Sight) (before : List (Option ℕ)) → gives_none (shape x) ≡ true → with_seconds x before ≡ before
-gives_none_is (Took n) before e = refl
-gives_none_is Held before e = refl
-gives_none_is Released before e = refl
-gives_none_is Wrote before e = refl
 gives_none_is (Gave b) before e = never e
-gives_none_is Nothing before e = refl
+gives_none_is _ before e = refl
 
 -- the notes after a list, SO being unheard
 unfoldable pub noted_with : Notes → List WireCall → Notes
@@ -85,13 +67,9 @@ module _ (mode : HourMode) where
 
   -- what is given out stands in the cells
   given_from : (x : Sight) (s t : CoreState) (before : List (Option ℕ)) → Acts byte_chart mode x s t → length s.map.cells ≡ 7 → with_seconds x before ≡ with_byte (get_or s.map.cells 0 0) (shape x) before
-  given_from (Took n) s t before acts whole = refl
-  given_from Held s t before acts whole = refl
-  given_from Released s t before acts whole = refl
-  given_from Wrote s t before acts whole = refl
   given_from (Gave bytes) s t before acts whole =
       ap (λ (o : Option ℕ). o ∷ before) (filled_mark (get_or s.map.cells 0 0) (bytes 0) (acts.1 whole 0))
-  given_from Nothing s t before acts whole = refl
+  given_from _ s t before acts whole = refl
 
   still_map : (x : Sight) (s t : CoreState) → Acts byte_chart mode x s t → s.map.mode ≡ mode → still s.held x ≡ true → t.map ≡ s.map
   still_map (Took n) s t acts stands e = ap (λ (u : CoreState). u.map) acts ∙ pulses_map byte_chart n s e

@@ -1,27 +1,24 @@
 -- What the sights of a list are, by its levels alone, but for the bytes that were given.
-use Rattle.std.proofs.Common.{◌≡◌, ℕ, ◌+◌, Bool, true, false, cond, not, ◌&&◌, eqb, ltb, leb, List, [], ◌∷◌, length, Some, None, Ok, Err, Option, Result, sym, refl, ap, ◌∙◌, subst, ap₂}
-use lib.Bits.{bit_and}
+use Rattle.std.proofs.Common.{◌≡◌, ℕ, ◌+◌, Bool, true, false, cond, not, ◌&&◌, is_ok, eqb, ltb, leb, List, [], ◌∷◌, length, Some, None, Ok, Err, Option, sym, refl, ap, ◌∙◌, subst, ap₂}
 use Rattle.std.specs.List.{AllByRecursion}
-use Rattle.refusals.specs.declared.Refusal.{Refusal}
-use Rattle.refusals.specs.declared.Refusal.TheVariants.{NoSuchLevels, TwoPinsChange, TooManyPulses, ShortBuffer}
+use Rattle.refusals.specs.declared.Refusal.TheVariants.{TooManyPulses, ShortBuffer}
 use Rattle.register_map.specs.declared.hour_mode.HourMode.{HourMode}
 use Rattle.clock_core.specs.Core.{Accepted as Acceptance}
-use Rattle.serial_transfer.specs.Levels.{out_number}
-use Rattle.rx5c_registers.specs.File.{FileState, registers, has}
+use Rattle.rx5c_registers.specs.File.{FileState, registers}
 use Rattle.rx5c_registers.specs.Clock as clock
-use Rattle.rx5c348a.specs.declared.pins.PinAnswer.{PinAnswer}
+use Rattle.rx5c348a.specs.declared.pins.PinMove.TheVariants.{CeRises, CeFalls, SclkRises, SclkFalls}
 use Rattle.rx5c348a.specs.Part.{PartState, pulse_part}
-use Rattle.rx5c348a.specs.Pins.{answer_in, differ, driven, pins_part}
+use Rattle.rx5c348a.specs.Pins.{Move, move_made, pins_part}
 use Rattle.timekeeping.specs.CoreCalls.{one_cell}
-use Rattle.timekeeping.specs.Logs.{Sight, Took, Held, Released, Wrote, Gave, Nothing, Log, hear, state_after, log_with, sights_of, pulses_by, pulses_taken, is_held, held_by, is_write}
+use Rattle.timekeeping.specs.Logs.{Sight, Took, Wrote, Gave, Nothing, Log, hear, state_after, log_with, sights_of, pulses_by, pulses_taken, is_held, held_by, is_write}
 use Rattle.timekeeping.proofs.Heard.{Truly}
 use Rattle.timekeeping.proofs.ShortLogs.{unreleased_by, unreleased_pulses, all_short}
 use Rattle.rx5c348a_runs.specs.declared.call.WireCall.{WireCall}
 use Rattle.rx5c348a_runs.specs.declared.call.WireCall.TheVariants.{Load, Pulses, Pins, Look}
-use Rattle.rx5c348a_runs.specs.declared.call.WireAnswer.TheVariants.{Levels, Registers}
-use Rattle.rx5c348a_runs.specs.Onlooker.{Next, AHeader, WriteTo, ReadFrom, Unheard, Notes, silent, noted, levels_sight, ce_noted, rise_noted, bit_noted, given_by}
-use Rattle.rx5c348a_runs.specs.Calls.{Answered, acceptance, levels_answered, do_call, work_one, note, notes, pins_noted, pins_sight, pulses_sight, look_sight, call_sight, part_machine}
-use Rattle.rx5c348a_runs.proofs.Tracking.{Tracks, notes_of, never}
+use Rattle.rx5c348a_runs.specs.declared.call.WireAnswer.TheVariants.{Registers}
+use Rattle.rx5c348a_runs.specs.Onlooker.{Next, ReadFrom, Notes, silent, noted, move_sight, bit_noted, given_by}
+use Rattle.rx5c348a_runs.specs.Calls.{acceptance, levels_answered, do_call, work_one, move_heard, note, notes, pins_noted, pins_sight, pulses_sight, look_sight, call_sight, part_machine}
+use Rattle.rx5c348a_runs.proofs.Tracking.{Tracks, notes_of, never, same_move}
 use Rattle.rx5c348a_runs.proofs.Runs.{tracked}
 
 -- that there is a byte, and not which
@@ -31,12 +28,8 @@ mark None = None
 
 -- a sight without the bytes that were given: of these it keeps whether the seconds are among them
 abbrev pub shape : Sight → Sight
-shape (Took n) = Took n
-shape Held = Held
-shape Released = Released
-shape Wrote = Wrote
 shape (Gave bytes) = Gave (λ _. mark (bytes 0))
-shape Nothing = Nothing
+shape x = x
 
 unfoldable pub shapes : List Sight → List Sight
 shapes [] = []
@@ -46,20 +39,18 @@ shapes (x ∷ sights) = shape x ∷ shapes sights
 abbrev pub accepts : Notes → WireCall → Bool
 accepts e (Load _) = false
 accepts e (Pulses n) = not (ltb 1048576 n)
-accepts e (Pins levels) = not (ltb 7 levels) && not (differ (has levels 4) e.ce && differ (has levels 2) e.sclk)
+accepts e (Pins levels) = is_ok (move_heard e levels)
 accepts e (Look room) = not (ltb room 16)
 
 -- what is noted and seen of an accepted call, SO being unheard
 abbrev pub noted_deaf : Notes → WireCall → Notes
-noted_deaf e (Load _) = e
-noted_deaf e (Pulses _) = e
-noted_deaf e (Pins levels) = noted e (has levels 4) (has levels 2) (bit_and levels 1) 0
-noted_deaf e (Look _) = e
+noted_deaf e (Pins levels) = noted e (move_heard e levels) 0
+noted_deaf e _ = e
 
 abbrev pub seen_deaf : HourMode → Notes → WireCall → Sight
 seen_deaf mode e (Load _) = Nothing
 seen_deaf mode e (Pulses n) = Took n
-seen_deaf mode e (Pins levels) = levels_sight mode e (has levels 4) (has levels 2) (bit_and levels 1) 0
+seen_deaf mode e (Pins levels) = move_sight mode e (move_heard e levels) 0
 seen_deaf mode e (Look _) = Gave (λ _. Some 0)
 
 unfoldable pub all_accepted : Notes → List WireCall → Bool
@@ -83,13 +74,10 @@ pub record Alike (e q : Notes) : Type 0 where
   pub so : List ℕ
   pub is : e ≡ notes_of q.ce q.sclk q.next q.si so
 
-alike_by : (edge move x y c k last : Bool) (next : Next) (si so none : List ℕ) (s v : ℕ) → Alike (cond edge (ce_noted (notes_of c k next si so) x) (cond move (cond y (rise_noted (notes_of c k next si so) v) (cond c (bit_noted (notes_of c k next si so) s last) (notes_of false false next si so))) (notes_of c k next si so))) (cond edge (ce_noted (notes_of c k next si none) x) (cond move (cond y (rise_noted (notes_of c k next si none) 0) (cond c (bit_noted (notes_of c k next si none) s last) (notes_of false false next si none))) (notes_of c k next si none)))
-alike_by true move x y c k last next si so none s v = record { so = []; is = refl }
-alike_by false false x y c k last next si so none s v = record { so = so; is = refl }
-alike_by false true x true c k last next si so none s v = record { so = cond c (v ∷ so) so; is = refl }
-alike_by false true x false false k last next si so none s v = record { so = so; is = refl }
-alike_by false true x false true k true next si so none s v = record { so = []; is = refl }
-alike_by false true x false true k false next si so none s v = record { so = so; is = refl }
+fall_alike : (c k last : Bool) (next : Next) (si so none : List ℕ) (s : ℕ) → Alike (cond c (bit_noted (notes_of c k next si so) s last) (notes_of false false next si so)) (cond c (bit_noted (notes_of c k next si none) s last) (notes_of false false next si none))
+fall_alike false k last next si so none s = record { so = so; is = refl }
+fall_alike true k true next si so none s = record { so = []; is = refl }
+fall_alike true k false next si so none s = record { so = so; is = refl }
 
 mark_by : (seconds : Bool) (b d : ℕ) → mark (cond seconds (Some b) None) ≡ mark (cond seconds (Some d) None)
 mark_by true b d = refl
@@ -100,18 +88,13 @@ cell_shape true address b d = ap (λ (o : Option ℕ). Gave (λ _. o)) (mark_by 
 cell_shape false address b d = refl
 
 given_shape : (next : Next) (b d : ℕ) → shape (given_by next b) ≡ shape (given_by next d)
-given_shape AHeader b d = refl
-given_shape (WriteTo address burst) b d = refl
 given_shape (ReadFrom address burst) b d = cell_shape (ltb address 7) address b d
-given_shape Unheard b d = refl
+given_shape _ b d = refl
 
-shape_by : (edge move y c last : Bool) (next : Next) (other landing : Sight) (b d : ℕ) → shape (cond edge other (cond move (cond y (cond c (cond last (given_by next b) Nothing) Nothing) landing) Nothing)) ≡ shape (cond edge other (cond move (cond y (cond c (cond last (given_by next d) Nothing) Nothing) landing) Nothing))
-shape_by true move y c last next other landing b d = refl
-shape_by false false y c last next other landing b d = refl
-shape_by false true false c last next other landing b d = refl
-shape_by false true true false last next other landing b d = refl
-shape_by false true true true false next other landing b d = refl
-shape_by false true true true true next other landing b d = given_shape next b d
+rise_shape : (c last : Bool) (next : Next) (b d : ℕ) → shape (cond c (cond last (given_by next b) Nothing) Nothing) ≡ shape (cond c (cond last (given_by next d) Nothing) Nothing)
+rise_shape true true next b d = given_shape next b d
+rise_shape true false next b d = refl
+rise_shape false last next b d = refl
 
 module _ (mode : HourMode) (e : Notes) (p : PartState) (t : Tracks e p) (q : Notes) (alike : Alike e q) where
   pub record AlikeAfter (call : WireCall) : Type 0 where
@@ -126,39 +109,42 @@ module _ (mode : HourMode) (e : Notes) (p : PartState) (t : Tracks e p) (q : Not
   look_seen true ok = never ok
   look_seen false ok = refl
 
-  pins_answered : (over two : Bool) → not over ≡ true → not two ≡ true → (a : PinAnswer) (d : PartState) → levels_answered (cond {A = Result PinAnswer Refusal × PartState} over (Err NoSuchLevels, p) (cond two (Err TwoPinsChange, p) (Ok a, d))).0 ≡ Ok (Levels a)
-  pins_answered true two a b answer d = never a
-  pins_answered false true a b answer d = never b
-  pins_answered false false a b answer d = refl
+  pins_alike : (move : Move) (v : ℕ) → Alike (noted e move v) (noted q move 0)
+  pins_alike move v =
+      subst (λ (n : Notes). Alike (noted n move v) (noted q move 0)) (sym alike.is) (at move)
+    where
+      at : (move : Move) → Alike (noted (notes_of q.ce q.sclk q.next q.si alike.so) move v) (noted q move 0)
+      at (Ok CeRises) = record { so = []; is = refl }
+      at (Ok CeFalls) = record { so = []; is = refl }
+      at (Ok SclkRises) = record { so = cond q.ce (v ∷ alike.so) alike.so; is = refl }
+      at (Ok (SclkFalls s)) = fall_alike q.ce q.sclk (eqb (length q.si) 7) q.next q.si alike.so q.so s
+      at _ = record { so = alike.so; is = refl }
 
-  module _ (x y : Bool) (s v : ℕ) where
-    pins_alike : Alike (noted e x y s v) (noted q x y s 0)
-    pins_alike =
-        subst (λ (n : Notes). Alike (noted n x y s v) (noted q x y s 0)) (sym alike.is)
-        (alike_by (differ x q.ce) (differ y q.sclk) x y q.ce q.sclk (eqb (length q.si) 7) q.next q.si alike.so q.so s v)
+  pins_shape : (move : Move) (v : ℕ) → shape (move_sight mode e move v) ≡ shape (move_sight mode q move 0)
+  pins_shape move v = ap (λ (n : Notes). shape (move_sight mode n move v)) alike.is ∙ at move
+    where
+      at : (move : Move) → shape (move_sight mode (notes_of q.ce q.sclk q.next q.si alike.so) move v) ≡ shape (move_sight mode q move 0)
+      at (Ok SclkRises) = rise_shape q.ce (eqb (length q.si) 7) q.next _ _
+      at _ = refl
 
-    pins_shape : shape (levels_sight mode e x y s v) ≡ shape (levels_sight mode q x y s 0)
-    pins_shape =
-        ap (λ (n : Notes). shape (levels_sight mode n x y s v)) alike.is
-        ∙ shape_by (differ x q.ce) (differ y q.sclk) y q.ce (eqb (length q.si) 7) q.next _ _ _ _
+  -- an accepted move, as he heard it, as the part made it, and by the notes with SO unheard
+  record AlikeMove (heard made deaf : Move) : Type 0 where
+    follows : Alike (pins_noted heard (levels_answered (move_made p made).0) e) (noted q deaf 0)
+    seen : shape (pins_sight mode e heard (levels_answered (move_made p made).0)) ≡ shape (move_sight mode q deaf 0)
+
+  alike_move : (move : Move) → is_ok move ≡ true → AlikeMove move move move
+  alike_move (Ok pin_move) ok = record { follows = pins_alike (Ok pin_move) _; seen = pins_shape (Ok pin_move) _ }
+  alike_move (Err why) ok = never ok
 
   after_pins : (levels : ℕ) → accepts q (Pins levels) ≡ true → AlikeAfter (Pins levels)
   unfolding pins_part
   after_pins levels ok =
-      let x : Bool = has levels 4 in
-      let y : Bool = has levels 2 in
-      let s : ℕ = bit_and levels 1 in
-      let a : PinAnswer = answer_in (driven p x y s) in
-      let c : p.ce ≡ q.ce = t.ce ∙ ap (λ (n : Notes). n.ce) alike.is in
-      let k : p.sclk ≡ q.sclk = t.sclk ∙ ap (λ (n : Notes). n.sclk) alike.is in
-      let one : not (differ x p.ce && differ y p.sclk) ≡ true =
-      ap₂ (λ (i j : Bool). not (differ x i && differ y j)) c k ∙ second_of_both (not (ltb 7 levels)) _ ok in
-      let answer : (do_call p (Pins levels)).0 ≡ Ok (Levels a) =
-      pins_answered (ltb 7 levels) (differ x p.ce && differ y p.sclk) (first_of (not (ltb 7 levels)) _ ok) one a (driven p x y s) in
-      record {
-        noted = subst (λ (w : Answered). Alike (pins_noted x y s w e) (noted q x y s 0)) (sym answer) (pins_alike x y s (out_number a.so));
-        seen = ap (λ (w : Answered). shape (pins_sight mode e x y s w)) answer ∙ pins_shape x y s (out_number a.so);
-      }
+      let deaf : Move = move_heard q levels in
+      let heard : move_heard e levels ≡ deaf = ap (λ (n : Notes). move_heard n levels) alike.is in
+      let both =
+      subst (λ (made : Move). AlikeMove (move_heard e levels) made deaf) (sym (same_move e p t levels ∙ heard))
+      (subst (λ (m : Move). AlikeMove m deaf deaf) (sym heard) (alike_move deaf ok)) in
+      record { noted = both.follows; seen = both.seen }
 
   pub after_call : (call : WireCall) → accepts q call ≡ true → AlikeAfter call
   unfolding pulse_part
@@ -179,12 +165,8 @@ module _ (mode : HourMode) (start : PartState) (t : Tracks silent start) where
 
 -- What the premises and the law ask of sights does not depend on the bytes given.
 one_unreleased : (x : Sight) (n : ℕ) → unreleased_by (shape x) n ≡ unreleased_by x n
-one_unreleased (Took k) n = refl
-one_unreleased Held n = refl
-one_unreleased Released n = refl
-one_unreleased Wrote n = refl
 one_unreleased (Gave b) n = refl
-one_unreleased Nothing n = refl
+one_unreleased _ n = refl
 
 shapes_unreleased : (sights : List Sight) → unreleased_pulses (shapes sights) ≡ unreleased_pulses sights
 unfolding unreleased_pulses shapes
@@ -197,12 +179,8 @@ shapes_short [] = refl
 shapes_short (x ∷ sights) = ap₂ (λ (n : ℕ) (b : Bool). leb n 32644 && b) (shapes_unreleased (x ∷ sights)) (shapes_short sights)
 
 one_taken : (x : Sight) → pulses_by (shape x) ≡ pulses_by x
-one_taken (Took k) = refl
-one_taken Held = refl
-one_taken Released = refl
-one_taken Wrote = refl
 one_taken (Gave b) = refl
-one_taken Nothing = refl
+one_taken _ = refl
 
 pub shapes_taken : (sights : List Sight) → pulses_taken (shapes sights) ≡ pulses_taken sights
 unfolding pulses_taken shapes
@@ -210,12 +188,8 @@ shapes_taken [] = refl
 shapes_taken (x ∷ sights) = ap₂ ◌+◌ (one_taken x) (shapes_taken sights)
 
 one_held : (x : Sight) (before : Bool) → held_by (shape x) before ≡ held_by x before
-one_held (Took k) before = refl
-one_held Held before = refl
-one_held Released before = refl
-one_held Wrote before = refl
 one_held (Gave b) before = refl
-one_held Nothing before = refl
+one_held _ before = refl
 
 pub shapes_held : (sights : List Sight) → is_held (shapes sights) ≡ is_held sights
 unfolding is_held shapes
@@ -227,12 +201,8 @@ none_written [] = true
 none_written (x ∷ sights) = not (is_write x) && none_written sights
 
 one_unwritten : (x : Sight) → not (is_write (shape x)) ≡ true → is_write x ≡ false
-one_unwritten (Took k) ok = refl
-one_unwritten Held ok = refl
-one_unwritten Released ok = refl
 one_unwritten Wrote ok = never ok
-one_unwritten (Gave b) ok = refl
-one_unwritten Nothing ok = refl
+one_unwritten _ ok = refl
 
 pub shapes_unwritten : (sights : List Sight) → none_written (shapes sights) ≡ true → AllByRecursion (λ x. is_write x ≡ false) sights
 unfolding none_written shapes

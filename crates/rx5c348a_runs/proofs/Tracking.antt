@@ -1,10 +1,8 @@
 -- The notes of an onlooker follow the part, and the part does to its core what he makes of its calls.
-use Rattle.std.proofs.Common.{◌≡◌, ℕ, zero, suc, ◌+◌, ◌-◌, ◌/◌, ◌%◌, ◌^◌, ◌<◌, Bool, true, false, cond, ◌&&◌, eqb, ltb, List, [], ◌∷◌, length, get_or, Some, None, Ok, Err, Option, Result, sym, refl, ap, ◌∙◌, subst, ap₂, div-one, add-one, arith, ltb-false, ltb-true, eqb-true}
+use Rattle.std.proofs.Common.{◌≡◌, ℕ, zero, suc, ◌+◌, ◌-◌, ◌/◌, ◌%◌, ◌^◌, ◌<◌, Bool, true, false, cond, eqb, ltb, List, [], ◌∷◌, length, get_or, Some, None, Ok, Err, Option, sym, refl, ap, ◌∙◌, subst, ap₂, div-one, add-one, arith, ltb-false, ltb-true, eqb-true}
 use borrow.Author.Tests.{eqb-false}
-use Rattle.refusals.specs.declared.Refusal.{Refusal}
-use Rattle.refusals.specs.declared.Refusal.TheVariants.{NoSuchLevels, TwoPinsChange}
 use Rattle.register_map.specs.declared.hour_mode.HourMode.{HourMode}
-use Rattle.register_map.specs.Chart.{advanced}
+use Rattle.register_map.specs.Chart.{MapState, advanced}
 use Rattle.byte_map.specs.Cells.{byte_chart}
 use Rattle.clock_core.specs.Core.{CoreState, set_core_mode}
 use Rattle.serial_transfer.specs.declared.phase.SerialOut.{SerialOut}
@@ -18,18 +16,18 @@ use Rattle.serial_transfer.specs.Levels.{taken, bit_at, out_number, level_out}
 use Rattle.serial_transfer.specs.Rules.{format_coded, data_at, headed, after_write, after_read}
 use Rattle.serial_transfer.proofs.Shifts.{taken_more}
 use Rattle.rx5c_registers.specs.File.{FileState, written, masked, hour_mode_in}
-use Rattle.rx5c_registers.specs.Clock.{held, released}
 use Rattle.rx5c_registers.proofs.Effects.{held_core, released_core_held, core_put_by, written_core, written_held}
 use Rattle.rx5c_registers.proofs.Rows.{lower_register}
-use Rattle.rx5c348a.specs.declared.pins.PinAnswer.{PinAnswer}
 use Rattle.rx5c348a.specs.Part.{PartState}
-use Rattle.rx5c348a.specs.Pins.{answer_in, differ, driven, due_byte, with_landing}
+use Rattle.rx5c348a.specs.declared.pins.PinMove.TheVariants.{Still, CeRises, CeFalls, SclkRises, SclkFalls}
+use Rattle.rx5c348a.specs.Pins.{due_byte, with_landing, sclk_to, Move, move_of, Tells, move_made}
+use Rattle.rx5c348a.proofs.Moves.{tells}
 use Rattle.timekeeping.specs.CoreCalls.{one_cell, same_mode}
 use Rattle.timekeeping.specs.Logs.{Wrote, Gave, Nothing}
 use Rattle.timekeeping.proofs.CoreSights.{acts_mode}
 use Rattle.timekeeping.proofs.Keeping.{Acts}
 use Rattle.rx5c348a_runs.specs.Onlooker.{Next, AHeader, WriteTo, ReadFrom, Unheard, asked, next_after, Notes, spelt, bit_noted, landed_by}
-use Rattle.rx5c348a_runs.specs.Calls.{levels_answered, pins_noted, pins_sight}
+use Rattle.rx5c348a_runs.specs.Calls.{levels_answered, move_heard, pins_noted, pins_sight}
 use Rattle.rx5c348a_runs.proofs.Sound.{Sound, sound_advanced, sound_put}
 
 -- a read byte of a calendar cell, as far as it has come: n of its bits are over, and SCLK is low or high
@@ -73,16 +71,13 @@ part f ce sclk phase = record { file = f; ce = ce; sclk = sclk; phase = phase }
 abbrev pub notes_of : Bool → Bool → Next → List ℕ → List ℕ → Notes
 notes_of ce sclk next si so = record { ce = ce; sclk = sclk; next = next; si = si; so = so }
 
--- what a pins call answers and leaves, by its tests
-abbrev pub pins_by : PartState → Bool → Bool → Bool → ℕ → Result PinAnswer Refusal × PartState
-pins_by p over ce sclk si =
-    cond over (Err NoSuchLevels, p)
-    (cond (differ ce p.ce && differ sclk p.sclk) (Err TwoPinsChange, p) (Ok (answer_in (driven p ce sclk si)), driven p ce sclk si))
+-- the notes follow, and the core does what he makes of the move that he heard
+pub record Step (mode : HourMode) (e : Notes) (p : PartState) (heard made : Move) : Type 0 where
+  pub tracks : Tracks (pins_noted heard (levels_answered (move_made p made).0) e) (move_made p made).1
+  pub acts : Acts byte_chart mode (pins_sight mode e heard (levels_answered (move_made p made).0)) p.file.core (move_made p made).1.file.core
 
--- the notes follow, and the core does what he makes of it
-pub record Step (mode : HourMode) (e : Notes) (p : PartState) (ce sclk : Bool) (si : ℕ) (r : Result PinAnswer Refusal × PartState) : Type 0 where
-  pub tracks : Tracks (pins_noted ce sclk si (levels_answered r.0) e) r.1
-  pub acts : Acts byte_chart mode (pins_sight mode e ce sclk si (levels_answered r.0)) p.file.core r.1.file.core
+abbrev StepBy : HourMode → Notes → PartState → Move → Type 0
+StepBy mode e p move = Step mode e p move move
 
 out_level : (n : ℕ) → out_number (level_out (n % 2)) ≡ n % 2
 out_level n = at (n % 2) (omega arith)
@@ -92,76 +87,45 @@ out_level n = at (n % 2) (omega arith)
     at (suc zero) h = refl
     at (suc (suc b)) h = absurd (omega arith)
 
+sound_released : (m : MapState) (waits : Bool) → Sound m → Sound (cond waits (advanced byte_chart m) m)
+sound_released m true ok = sound_advanced m ok
+sound_released m false ok = ok
+
+module _ (mode : HourMode) (e : Notes) (p : PartState) (t : Tracks e p) where
+  ce_rises : e.ce ≡ false → StepBy mode e p (Ok CeRises)
+  unfolding spelt
+  ce_rises low =
+      let core = held_core p.file (t.held ∙ low) in
+      record {
+        tracks = record {
+          ce = refl;
+          sclk = t.sclk;
+          held = ap (λ (c : CoreState). c.held) core;
+          few = omega arith;
+          sound = subst Sound (sym (ap (λ (c : CoreState). c.map) core)) t.sound;
+          phase = refl;
+        };
+        acts = (t.held ∙ low, core);
+      }
+
+  ce_falls : e.ce ≡ true → StepBy mode e p (Ok CeFalls)
+  ce_falls high =
+      let core = released_core_held p.file (t.held ∙ high) in
+      record {
+        tracks = record {
+          ce = refl;
+          sclk = t.sclk;
+          held = ap (λ (c : CoreState). c.held) core;
+          few = omega arith;
+          sound = subst Sound (sym (ap (λ (c : CoreState). c.map) core)) (sound_released p.file.core.map p.file.core.waits t.sound);
+          phase = refl;
+        };
+        acts = (t.held ∙ high, core);
+      }
+
 module _ (mode : HourMode) (f : FileState) where
   abbrev cells : List ℕ
   cells = f.core.map.cells
-
-  -- nothing has changed
-  same : (c k : Bool) (next : Next) (si so : List ℕ) (ph : Phase) → Tracks (notes_of c k next si so) (part f c k ph) → (why : Refusal) (x y : Bool) (s : ℕ) → Step mode (notes_of c k next si so) (part f c k ph) x y s (Err why, part f c k ph)
-  same c k next si so ph t why x y s = record { tracks = t; acts = λ _. refl }
-
-  -- CE rises
-  up : (k : Bool) (next : Next) (si so : List ℕ) (ph : Phase) → Tracks (notes_of false k next si so) (part f false k ph) → (s : ℕ) → Step mode (notes_of false k next si so) (part f false k ph) true k s (Ok (answer_in (part (held f) true k (Header 0 0))), part (held f) true k (Header 0 0))
-  unfolding spelt
-  up true next si so ph t s =
-      let core = held_core f t.held in
-      record {
-        tracks = record {
-          ce = refl;
-          sclk = refl;
-          held = ap (λ (c : CoreState). c.held) core;
-          few = omega arith;
-          sound = subst Sound (sym (ap (λ (c : CoreState). c.map) core)) t.sound;
-          phase = refl;
-        };
-        acts = (t.held, core);
-      }
-  up false next si so ph t s =
-      let core = held_core f t.held in
-      record {
-        tracks = record {
-          ce = refl;
-          sclk = refl;
-          held = ap (λ (c : CoreState). c.held) core;
-          few = omega arith;
-          sound = subst Sound (sym (ap (λ (c : CoreState). c.map) core)) t.sound;
-          phase = refl;
-        };
-        acts = (t.held, core);
-      }
-
-  -- CE falls
-  sound_released : (waits : Bool) → Sound f.core.map → Sound (cond waits (advanced byte_chart f.core.map) f.core.map)
-  sound_released true ok = sound_advanced f.core.map ok
-  sound_released false ok = ok
-
-  down : (k : Bool) (next : Next) (si so : List ℕ) (ph : Phase) → Tracks (notes_of true k next si so) (part f true k ph) → (s : ℕ) → Step mode (notes_of true k next si so) (part f true k ph) false k s (Ok (answer_in (part (released f) false k Idle)), part (released f) false k Idle)
-  down true next si so ph t s =
-      let core = released_core_held f t.held in
-      record {
-        tracks = record {
-          ce = refl;
-          sclk = refl;
-          held = ap (λ (c : CoreState). c.held) core;
-          few = omega arith;
-          sound = subst Sound (sym (ap (λ (c : CoreState). c.map) core)) (sound_released f.core.waits t.sound);
-          phase = refl;
-        };
-        acts = (t.held, core);
-      }
-  down false next si so ph t s =
-      let core = released_core_held f t.held in
-      record {
-        tracks = record {
-          ce = refl;
-          sclk = refl;
-          held = ap (λ (c : CoreState). c.held) core;
-          few = omega arith;
-          sound = subst Sound (sym (ap (λ (c : CoreState). c.map) core)) (sound_released f.core.waits t.sound);
-          phase = refl;
-        };
-        acts = (t.held, core);
-      }
 
   -- a sight of nothing leaves the core
   nothing : (b : Bool) → Acts byte_chart mode (cond b Nothing Nothing) f.core f.core
@@ -169,49 +133,23 @@ module _ (mode : HourMode) (f : FileState) where
   nothing false = λ _. refl
 
   -- SCLK moves with CE low
-  low_rise : (next : Next) (si so : List ℕ) (ph : Phase) → Tracks (notes_of false false next si so) (part f false false ph) → (s : ℕ) → Step mode (notes_of false false next si so) (part f false false ph) false true s (pins_by (part f false false ph) false false true s)
-  low_rise next si so ph t s =
-      subst (λ (q : Phase). Step mode (notes_of false false next si so) (part f false false q) false true s (pins_by (part f false false q) false false true s)) (sym t.phase)
-      (record {
-        tracks = record { ce = refl; sclk = refl; held = t.held; few = t.few; sound = t.sound; phase = refl };
-        acts = λ _. refl;
-      })
-
-  low_fall : (next : Next) (si so : List ℕ) (ph : Phase) → Tracks (notes_of false true next si so) (part f false true ph) → (s : ℕ) → Step mode (notes_of false true next si so) (part f false true ph) false false s (pins_by (part f false true ph) false false false s)
-  low_fall next si so ph t s =
-      subst (λ (q : Phase). Step mode (notes_of false true next si so) (part f false true q) false false s (pins_by (part f false true q) false false false s)) (sym t.phase)
-      (record {
-        tracks = record { ce = refl; sclk = refl; held = t.held; few = t.few; sound = t.sound; phase = refl };
-        acts = λ _. refl;
-      })
+  low : (k high : Bool) (next : Next) (si so : List ℕ) (ph : Phase) → Tracks (notes_of false k next si so) (part f false k ph) → (s : ℕ) → StepBy mode (notes_of false k next si so) (part f false k ph) (Ok (sclk_to high s))
+  low k high next si so ph t s =
+      subst (λ (q : Phase). StepBy mode (notes_of false k next si so) (part f false k q) (Ok (sclk_to high s))) (sym t.phase) (at high)
+    where
+      at : (high : Bool) → StepBy mode (notes_of false k next si so) (part f false k Idle) (Ok (sclk_to high s))
+      at true = record { tracks = record { ce = refl; sclk = refl; held = t.held; few = t.few; sound = t.sound; phase = refl }; acts = λ _. refl }
+      at false = record { tracks = record { ce = refl; sclk = refl; held = t.held; few = t.few; sound = t.sound; phase = refl }; acts = λ _. refl }
 
   -- SCLK rises with CE high: in read data a level goes on SO
-  abbrev RiseAt : Next → List ℕ → List ℕ → ℕ → Phase → Type 0
-  RiseAt next si so s ph =
-      Step mode (notes_of true false next si so) (part f true false ph) true true s (pins_by (part f true false ph) false true true s)
+  abbrev RiseAt : Next → List ℕ → List ℕ → Phase → Type 0
+  RiseAt next si so ph = StepBy mode (notes_of true false next si so) (part f true false ph) (Ok SclkRises)
 
-  module _ (si so : List ℕ) (few : length si < 8) (is_held_lem : f.core.held ≡ true) (sound : Sound f.core.map) (s : ℕ) where
-    rise_header : RiseAt AHeader si so s (Header (length si) (spelt si))
-    rise_header =
-        record {
-          tracks = record { ce = refl; sclk = refl; held = is_held_lem; few = few; sound = sound; phase = refl };
-          acts = nothing (eqb (length si) 7);
-        }
+  raised : (next : Next) (si so later : List ℕ) (ph after : Phase) → Tracks (notes_of true false next si so) (part f true false ph) → Follows cells true next si later after → Tracks (notes_of true true next si later) (part f true true after)
+  raised next si so later ph after t follows =
+      record { ce = refl; sclk = refl; held = t.held; few = t.few; sound = t.sound; phase = follows }
 
-    rise_write : (address : ℕ) (burst : Bool) → RiseAt (WriteTo address burst) si so s (Write address burst (length si) (spelt si))
-    rise_write address burst =
-        record {
-          tracks = record { ce = refl; sclk = refl; held = is_held_lem; few = few; sound = sound; phase = refl };
-          acts = nothing (eqb (length si) 7);
-        }
-
-    rise_deaf : RiseAt Unheard si so s Deaf
-    rise_deaf =
-        record {
-          tracks = record { ce = refl; sclk = refl; held = is_held_lem; few = few; sound = sound; phase = refl };
-          acts = nothing (eqb (length si) 7);
-        }
-
+  module _ (si so : List ℕ) (few : length si < 8) (is_held_lem : f.core.held ≡ true) (sound : Sound f.core.map) where
     module _ (address : ℕ) (burst : Bool) (byte : ℕ) (out : SerialOut) (so_far : SoFar cells address (length si) byte so false) where
       -- the byte that goes out, by whether this rise fixes it
       abbrev pub fixed_by : Bool → ℕ
@@ -261,7 +199,7 @@ module _ (mode : HourMode) (f : FileState) where
       given_acts true false e d = λ _. refl
       given_acts false calendar e d = λ _. refl
 
-      rise_read : RiseAt (ReadFrom address burst) si so s (Read address burst (length si) byte out)
+      rise_read : RiseAt (ReadFrom address burst) si so (Read address burst (length si) byte out)
       rise_read =
           record {
             tracks = record {
@@ -275,20 +213,20 @@ module _ (mode : HourMode) (f : FileState) where
             acts = given_acts (eqb (length si) 7) (ltb address 7) refl refl;
           }
 
-  rise : (next : Next) (si so : List ℕ) (ph : Phase) → Tracks (notes_of true false next si so) (part f true false ph) → (s : ℕ) → RiseAt next si so s ph
-  rise AHeader si so ph t s =
-      subst (RiseAt AHeader si so s) (sym t.phase) (rise_header si so t.few t.held t.sound s)
-  rise (WriteTo address burst) si so ph t s =
-      subst (RiseAt (WriteTo address burst) si so s) (sym t.phase) (rise_write si so t.few t.held t.sound s address burst)
-  rise (ReadFrom address burst) si so ph t s =
+  rise : (next : Next) (si so : List ℕ) (ph : Phase) → Tracks (notes_of true false next si so) (part f true false ph) → RiseAt next si so ph
+  rise AHeader si so ph t =
+      subst (RiseAt AHeader si so) (sym t.phase) (record { tracks = raised AHeader si so _ ph _ t refl; acts = nothing (eqb (length si) 7) })
+  rise (WriteTo address burst) si so ph t =
+      subst (RiseAt (WriteTo address burst) si so) (sym t.phase) (record { tracks = raised (WriteTo address burst) si so _ ph _ t refl; acts = nothing (eqb (length si) 7) })
+  rise (ReadFrom address burst) si so ph t =
       let r = t.phase in
-      subst (RiseAt (ReadFrom address burst) si so s) (sym r.stands) (rise_read si so t.few t.held t.sound s address burst r.byte r.out r.so_far)
-  rise Unheard si so ph t s = subst (RiseAt Unheard si so s) (sym t.phase) (rise_deaf si so t.few t.held t.sound s)
+      subst (RiseAt (ReadFrom address burst) si so) (sym r.stands) (rise_read si so t.few t.held t.sound address burst r.byte r.out r.so_far)
+  rise Unheard si so ph t =
+      subst (RiseAt Unheard si so) (sym t.phase) (record { tracks = raised Unheard si so _ ph _ t refl; acts = nothing (eqb (length si) 7) })
 
   -- SCLK falls with CE high: a bit is taken, and the eighth makes a byte
   abbrev FallAt : Next → List ℕ → List ℕ → ℕ → Phase → Type 0
-  FallAt next si so s ph =
-      Step mode (notes_of true true next si so) (part f true true ph) true false s (pins_by (part f true true ph) false true false s)
+  FallAt next si so s ph = StepBy mode (notes_of true true next si so) (part f true true ph) (Ok (SclkFalls s))
 
   -- what a header asks for
   asked_follows : (row : List ℕ) (address : ℕ) (o : Option Format) → Follows row false (asked address o) [] [] (data_at address o)
@@ -443,22 +381,35 @@ module _ (mode : HourMode) (f : FileState) where
       subst (FallAt (ReadFrom address burst) si so s) (sym r.stands) (fall_read si so t.few t.held t.sound s address burst r.byte r.out r.so_far)
   fall Unheard si so ph t s = subst (FallAt Unheard si so s) (sym t.phase) (fall_deaf si so t.few t.held t.sound s)
 
+  -- every move, by levels that it may come of
+  by_levels : (levels : ℕ) (c k : Bool) (next : Next) (si so : List ℕ) (ph : Phase) → Tracks (notes_of c k next si so) (part f c k ph) → (move : Move) → Tells c k levels move → StepBy mode (notes_of c k next si so) (part f c k ph) move
+  by_levels levels c k next si so ph t (Err why) h = record { tracks = t; acts = λ _. refl }
+  by_levels levels c k next si so ph t (Ok Still) h = record { tracks = t; acts = λ _. refl }
+  by_levels levels c k next si so ph t (Ok CeRises) h = ce_rises mode (notes_of c k next si so) (part f c k ph) t h.0
+  by_levels levels c k next si so ph t (Ok CeFalls) h = ce_falls mode (notes_of c k next si so) (part f c k ph) t h.0
+  by_levels levels false k next si so ph t (Ok SclkRises) h = low k true next si so ph t 0
+  by_levels levels true true next si so ph t (Ok SclkRises) h = never (sym h.0)
+  by_levels levels true false next si so ph t (Ok SclkRises) h = rise next si so ph t
+  by_levels levels false k next si so ph t (Ok (SclkFalls s)) h = low k false next si so ph t s
+  by_levels levels true true next si so ph t (Ok (SclkFalls s)) h = fall next si so ph t s
+  by_levels levels true false next si so ph t (Ok (SclkFalls s)) h = never h.0
+
+module _ (e : Notes) (p : PartState) (t : Tracks e p) where
+  -- the part, with its levels as they are noted
+  pub is_noted : p ≡ part p.file e.ce e.sclk p.phase
+  is_noted = ap₂ (λ (c k : Bool). part p.file c k p.phase) t.ce t.sclk
+
+  pub noted_tracks : Tracks e (part p.file e.ce e.sclk p.phase)
+  noted_tracks = record { ce = refl; sclk = refl; held = t.held; few = t.few; sound = t.sound; phase = t.phase }
+
+  -- what new levels do is the same move by his notes and by the part
+  pub same_move : (levels : ℕ) → move_of p.ce p.sclk levels ≡ move_heard e levels
+  same_move levels = ap₂ (λ (c k : Bool). move_of c k levels) t.ce t.sclk
+
   -- every pins call
-  pub pins_step : (over c k x y : Bool) (next : Next) (si so : List ℕ) (ph : Phase) → Tracks (notes_of c k next si so) (part f c k ph) → (s : ℕ) → Step mode (notes_of c k next si so) (part f c k ph) x y s (pins_by (part f c k ph) over x y s)
-  pins_step true c k x y next si so ph t s = same c k next si so ph t NoSuchLevels x y s
-  pins_step false true true true true next si so ph t s = record { tracks = t; acts = λ _. refl }
-  pins_step false true false true false next si so ph t s = record { tracks = t; acts = λ _. refl }
-  pins_step false true false true true next si so ph t s = rise next si so ph t s
-  pins_step false true true true false next si so ph t s = fall next si so ph t s
-  pins_step false true true false true next si so ph t s = down true next si so ph t s
-  pins_step false true false false false next si so ph t s = down false next si so ph t s
-  pins_step false true true false false next si so ph t s = same true true next si so ph t TwoPinsChange false false s
-  pins_step false true false false true next si so ph t s = same true false next si so ph t TwoPinsChange false true s
-  pins_step false false true true true next si so ph t s = up true next si so ph t s
-  pins_step false false false true false next si so ph t s = up false next si so ph t s
-  pins_step false false true true false next si so ph t s = same false true next si so ph t TwoPinsChange true false s
-  pins_step false false false true true next si so ph t s = same false false next si so ph t TwoPinsChange true true s
-  pins_step false false true false true next si so ph t s = record { tracks = t; acts = λ _. refl }
-  pins_step false false false false false next si so ph t s = record { tracks = t; acts = λ _. refl }
-  pins_step false false false false true next si so ph t s = low_rise next si so ph t s
-  pins_step false false true false false next si so ph t s = low_fall next si so ph t s
+  pub pins_step : (mode : HourMode) (levels : ℕ) → Step mode e p (move_heard e levels) (move_of p.ce p.sclk levels)
+  pins_step mode levels =
+      let heard : Move = move_heard e levels in
+      subst (Step mode e p heard) (sym (same_move levels))
+      (subst (λ (q : PartState). Step mode e q heard heard) (sym is_noted)
+      (by_levels mode p.file levels e.ce e.sclk e.next e.si e.so p.phase noted_tracks heard (tells e.ce e.sclk levels)))

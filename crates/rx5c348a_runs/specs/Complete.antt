@@ -1,13 +1,15 @@
 -- Nothing escapes the onlooker: every calendar cell that a part gives out, every byte that it takes for its calendar or
 -- trim, and every rise and fall of CE is among his sights, and he sees no others. What happens is told here by the part's
 -- own state, not by his notes.
-use Rattle.std.specs.Prelude.{◌≡◌, ℕ, ◌<◌, ◌≤◌, Bool, true, false, not, List, Some, Option, bit_and, slice_index}
+use Rattle.std.specs.Prelude.{◌≡◌, ℕ, ◌<◌, ◌≤◌, Bool, true, false, List, Ok, Some, Option, slice_index}
 use Rattle.register_map.specs.declared.hour_mode.HourMode.{HourMode}
 use Rattle.serial_transfer.specs.declared.phase.SerialOut.{SerialOut}
 use Rattle.serial_transfer.specs.declared.phase.Phase.TheVariants.{Write, Read}
 use Rattle.serial_transfer.specs.Levels.{taken}
-use Rattle.rx5c_registers.specs.File.{has, masked, hour_mode_in}
+use Rattle.rx5c_registers.specs.File.{masked, hour_mode_in}
+use Rattle.rx5c348a.specs.declared.pins.PinMove.TheVariants.{SclkRises, SclkFalls}
 use Rattle.rx5c348a.specs.Part.{PartState}
+use Rattle.rx5c348a.specs.Pins.{ce_to, move_of}
 use Rattle.timekeeping.specs.CoreCalls.{same_mode, one_cell}
 use Rattle.timekeeping.specs.Logs.{Sight, Held, Released, Wrote, Gave, state_after, log_of}
 use Rattle.rx5c348a_runs.specs.declared.call.WireCall.{WireCall}
@@ -15,29 +17,24 @@ use Rattle.rx5c348a_runs.specs.declared.call.WireCall.TheVariants.{Pins, Look}
 use Rattle.rx5c348a_runs.specs.Calls.{do_call, notes, call_sight, part_machine}
 use Rattle.rx5c348a_runs.specs.Start.{Loaded}
 
--- The eighth rise of a calendar cell's byte: seven of its bits are over, and SCLK rises while CE stays high.
+-- The eighth rise of a calendar cell's byte: seven of its bits are over, and SCLK rises, CE being high.
 pub record EighthRise (p : PartState) (levels cell byte : ℕ) : Type 0 where
   pub burst : Bool
   pub out : SerialOut
   pub reads : p.phase ≡ Read cell burst 7 byte out
   pub selected : p.ce ≡ true
-  pub low : p.sclk ≡ false
-  pub no_others : levels ≤ 7
-  pub stays_selected : has levels 4 ≡ true
-  pub rises : has levels 2 ≡ true
+  pub rises : move_of p.ce p.sclk levels ≡ Ok SclkRises
   pub in_calendar : cell < 7
 
--- The eighth fall of a written byte: seven of its bits are in, and SCLK falls while CE stays high. The byte lands.
+-- The eighth fall of a written byte: seven of its bits are in, and SCLK falls with the last, CE being high. The byte lands.
 pub record EighthFall (p : PartState) (levels address byte : ℕ) : Type 0 where
   pub burst : Bool
   pub gathered : ℕ
+  pub last : ℕ
   pub writes : p.phase ≡ Write address burst 7 gathered
   pub selected : p.ce ≡ true
-  pub high : p.sclk ≡ true
-  pub no_others : levels ≤ 7
-  pub stays_selected : has levels 4 ≡ true
-  pub falls : has levels 2 ≡ false
-  pub whole : byte ≡ taken gathered (bit_and levels 1)
+  pub falls : move_of p.ce p.sclk levels ≡ Ok (SclkFalls last)
+  pub whole : byte ≡ taken gathered last
 
 -- A landed byte disturbs the timekeeping where it goes to register 0 to 7, or to Eh with another hour mode.
 pub data Disturbs (mode : HourMode) (address byte : ℕ) : Type 0 where
@@ -60,10 +57,7 @@ pub data GivesOut (p : PartState) (call : WireCall) : Type 0 where
 pub record CeGoes (to : Bool) (p : PartState) (call : WireCall) : Type 0 where
   pub levels : ℕ
   pub drives : call ≡ Pins levels
-  pub no_others : levels ≤ 7
-  pub was : p.ce ≡ not to
-  pub goes : has levels 4 ≡ to
-  pub sclk_stays : has levels 2 ≡ p.sclk
+  pub goes : move_of p.ce p.sclk levels ≡ Ok (ce_to to)
 
 -- every calendar cell is given out, as it stands
 pub record WholeCalendar (p : PartState) (sight : Sight) : Type 0 where

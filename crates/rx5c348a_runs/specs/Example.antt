@@ -7,7 +7,7 @@ use Rattle.byte_map.specs.Cells.{byte_chart}
 use Rattle.serial_transfer.specs.Levels.{bit_at}
 use Rattle.rx5c348a.specs.Part.{PartState, power_on, load_part}
 use Rattle.timekeeping.specs.Law.{NewlyMade, Timekeeping, calendar}
-use Rattle.timekeeping.specs.Logs.{Sight, Took, Held, Released, Wrote, Gave, Nothing, Log, log_of, sights_of, Undisturbed, ShortStretches}
+use Rattle.timekeeping.specs.Logs.{Sight, Gave, Log, log_of, sights_of, Undisturbed, ShortStretches}
 use Rattle.rx5c348a_runs.specs.declared.call.WireCall.{WireCall}
 use Rattle.rx5c348a_runs.specs.declared.call.WireCall.TheVariants.{Pulses, Pins, Look}
 use Rattle.rx5c348a_runs.specs.Calls.{part_machine}
@@ -43,12 +43,8 @@ before_the_stretch = Pulses 32600 ∷ seconds_read (Pulses 100 ∷ [])
 
 -- what a sight adds to the seconds that were given out
 abbrev pub with_seconds : Sight → List (Option ℕ) → List (Option ℕ)
-with_seconds (Took _) before = before
-with_seconds Held before = before
-with_seconds Released before = before
-with_seconds Wrote before = before
 with_seconds (Gave bytes) before = bytes 0 ∷ before
-with_seconds Nothing before = before
+with_seconds _ before = before
 
 -- the seconds, each time that these sights gave cells out, the newest first
 unfoldable pub seconds_given : List Sight → List (Option ℕ)

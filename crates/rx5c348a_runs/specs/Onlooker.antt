@@ -1,12 +1,13 @@
--- What an onlooker at the wires makes of levels: he notes SI at the falls of SCLK and SO at its rises, and counts in eights.
-use Rattle.std.specs.Prelude.{ℕ, ◌+◌, ◌/◌, ◌%◌, Bool, true, false, cond, List, [], ◌∷◌, length, Some, None, Option, ◌==◌, nat_lt}
+-- What an onlooker at the wires makes of a move of the pins: he notes SI at the falls of SCLK and SO at its rises, and counts in eights.
+use Rattle.std.specs.Prelude.{ℕ, ◌+◌, ◌/◌, ◌%◌, Bool, true, false, cond, List, [], ◌∷◌, length, Ok, Some, None, Option, ◌==◌, nat_lt}
 use Rattle.register_map.specs.declared.hour_mode.HourMode.{HourMode}
 use Rattle.serial_transfer.specs.declared.phase.Format.{Format}
 use Rattle.serial_transfer.specs.declared.phase.Format.TheVariants.{SingleWrite, BurstWrite, SingleRead, BurstRead}
 use Rattle.serial_transfer.specs.Levels.{taken}
 use Rattle.serial_transfer.specs.Rules.{format_coded}
 use Rattle.rx5c_registers.specs.File.{masked, hour_mode_in}
-use Rattle.rx5c348a.specs.Pins.{differ}
+use Rattle.rx5c348a.specs.declared.pins.PinMove.TheVariants.{CeRises, CeFalls, SclkRises, SclkFalls}
+use Rattle.rx5c348a.specs.Pins.{Move}
 use Rattle.timekeeping.specs.CoreCalls.{same_mode, one_cell}
 use Rattle.timekeeping.specs.Logs.{Sight, Held, Released, Wrote, Gave, Nothing}
 
@@ -72,26 +73,25 @@ abbrev pub fall_noted : Notes → ℕ → Notes
 fall_noted e si =
     cond e.ce (bit_noted e si (length e.si == 7)) (record { ce = false; sclk = false; next = e.next; si = e.si; so = e.so })
 
--- New levels on CE, SCLK and SI, with what is heard on SO.
-abbrev pub noted : Notes → Bool → Bool → ℕ → ℕ → Notes
-noted e ce sclk si so =
-    cond (differ ce e.ce) (ce_noted e ce) (cond (differ sclk e.sclk) (cond sclk (rise_noted e so) (fall_noted e si)) e)
+-- A move, with what is heard on SO.
+abbrev pub noted : Notes → Move → ℕ → Notes
+noted e (Ok CeRises) so = ce_noted e true
+noted e (Ok CeFalls) so = ce_noted e false
+noted e (Ok SclkRises) so = rise_noted e so
+noted e (Ok (SclkFalls si)) so = fall_noted e si
+noted e _ so = e
 
 -- A byte given out: the eighth rise of a calendar cell.
 abbrev pub given_by : Next → ℕ → Sight
-given_by AHeader byte = Nothing
-given_by (WriteTo _ _) byte = Nothing
 given_by (ReadFrom address _) byte = cond (nat_lt address 7) (Gave (one_cell address byte)) Nothing
-given_by Unheard byte = Nothing
+given_by _ byte = Nothing
 
 -- A byte that lands in a register of the timekeeping; the hour mode may be the one that stands.
 abbrev pub landed_by : HourMode → Next → ℕ → Sight
-landed_by mode AHeader byte = Nothing
 landed_by mode (WriteTo address _) byte =
     cond (nat_lt address 8) Wrote
     (cond (address == 14) (cond (same_mode mode (hour_mode_in (masked 14 byte))) Nothing Wrote) Nothing)
-landed_by mode (ReadFrom _ _) byte = Nothing
-landed_by mode Unheard byte = Nothing
+landed_by mode _ byte = Nothing
 
 abbrev pub rise_sight : Notes → ℕ → Sight
 rise_sight e so = cond e.ce (cond (length e.si == 7) (given_by e.next (spelt (so ∷ e.so))) Nothing) Nothing
@@ -99,8 +99,10 @@ rise_sight e so = cond e.ce (cond (length e.si == 7) (given_by e.next (spelt (so
 abbrev pub fall_sight : HourMode → Notes → ℕ → Sight
 fall_sight mode e si = cond e.ce (cond (length e.si == 7) (landed_by mode e.next (spelt (si ∷ e.si))) Nothing) Nothing
 
--- What he makes of new levels: a rise of CE holds, its fall releases.
-abbrev pub levels_sight : HourMode → Notes → Bool → Bool → ℕ → ℕ → Sight
-levels_sight mode e ce sclk si so =
-    cond (differ ce e.ce) (cond ce Held Released)
-    (cond (differ sclk e.sclk) (cond sclk (rise_sight e so) (fall_sight mode e si)) Nothing)
+-- What he makes of a move: a rise of CE holds, its fall releases.
+abbrev pub move_sight : HourMode → Notes → Move → ℕ → Sight
+move_sight mode e (Ok CeRises) so = Held
+move_sight mode e (Ok CeFalls) so = Released
+move_sight mode e (Ok SclkRises) so = rise_sight e so
+move_sight mode e (Ok (SclkFalls si)) so = fall_sight mode e si
+move_sight mode e _ so = Nothing
