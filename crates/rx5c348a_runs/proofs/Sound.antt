@@ -1,5 +1,5 @@
 -- The cells of a part are seven bytes, along every call.
-use Rattle.std.proofs.Common.{◌≡◌, ℕ, zero, suc, ◌+◌, ◌<◌, Bool, true, false, cond, ltb, List, [], ◌∷◌, length, get_or, set, Some, None, Option, sym, refl, ap, ◌∙◌, subst, arith}
+use Rattle.std.proofs.Common.{◌≡◌, ℕ, zero, suc, ◌+◌, ◌<◌, Bool, true, false, cond, ltb, List, [], ◌∷◌, length, length-set, get_or, set, Some, None, Option, sym, refl, ◌∙◌, subst, arith}
 use lib.Bits.{and_le_r}
 use Rattle.register_map.specs.declared.hour_mode.HourMode.{HourMode}
 use Rattle.register_map.specs.declared.shown.Shown.{Shown}
@@ -33,11 +33,6 @@ sound_advanced m ok = by (shown_by byte_chart m) refl
         let coded = byte_chart_lawful.shown_is_coded m.mode m.cells q e in
         sound_code m.mode _ (showable_after byte_chart byte_chart_lawful q coded.1)
 
-set_length : (cells : List ℕ) (k x : ℕ) → length (set cells k x) ≡ length cells
-set_length [] k x = refl
-set_length (c ∷ cells) zero x = refl
-set_length (c ∷ cells) (suc k) x = ap suc (set_length cells k x)
-
 set_bytes : (cells : List ℕ) (k x : ℕ) → ((j : ℕ) → get_or cells j 0 < 256) → x < 256 → (j : ℕ) → get_or (set cells k x) j 0 < 256
 set_bytes [] k x ok small j = ok j
 set_bytes (c ∷ cells) zero x ok small zero = small
@@ -50,7 +45,7 @@ sound_put m cell byte ok =
     let mask = byte_chart_lawful.masks_are_bytes cell in
     let low = and_le_r byte (get_or byte_chart.used cell 0) in
     record {
-      seven = set_length m.cells cell _ ∙ ok.seven;
+      seven = length-set m.cells cell _ ∙ ok.seven;
       bytes = set_bytes m.cells cell _ ok.bytes (omega arith);
     }
 

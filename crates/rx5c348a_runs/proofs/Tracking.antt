@@ -16,6 +16,7 @@ use Rattle.serial_transfer.specs.Levels.{taken, bit_at, out_number, level_out}
 use Rattle.serial_transfer.specs.Rules.{format_coded, data_at, headed, after_write, after_read}
 use Rattle.serial_transfer.proofs.Shifts.{taken_more}
 use Rattle.rx5c_registers.specs.File.{FileState, written, masked, hour_mode_in}
+use Rattle.rx5c_registers.specs.Clock.{held, released}
 use Rattle.rx5c_registers.proofs.Effects.{held_core, released_core_held, core_put_by, written_core, written_held}
 use Rattle.rx5c_registers.proofs.Rows.{lower_register}
 use Rattle.rx5c348a.specs.Part.{PartState}
@@ -26,7 +27,7 @@ use Rattle.timekeeping.specs.CoreCalls.{one_cell, same_mode}
 use Rattle.timekeeping.specs.Logs.{Wrote, Gave, Nothing}
 use Rattle.timekeeping.proofs.CoreSights.{acts_mode}
 use Rattle.timekeeping.proofs.Keeping.{Acts}
-use Rattle.rx5c348a_runs.specs.Onlooker.{Next, AHeader, WriteTo, ReadFrom, Unheard, asked, next_after, Notes, spelt, bit_noted, landed_by}
+use Rattle.rx5c348a_runs.specs.Onlooker.{Next, AHeader, WriteTo, ReadFrom, Unheard, asked, next_after, Notes, spelt, ce_noted, bit_noted, landed_by}
 use Rattle.rx5c348a_runs.specs.Calls.{levels_answered, move_heard, pins_noted, pins_sight}
 use Rattle.rx5c348a_runs.proofs.Sound.{Sound, sound_advanced, sound_put}
 
@@ -92,34 +93,28 @@ sound_released m true ok = sound_advanced m ok
 sound_released m false ok = ok
 
 module _ (mode : HourMode) (e : Notes) (p : PartState) (t : Tracks e p) where
+  ce_tracks : (to : Bool) (g : FileState) (s : CoreState) (ph : Phase) → g.core ≡ s → s.held ≡ to → Sound s.map → PhaseBy to g.core.map.cells e.sclk AHeader [] [] ph → Tracks (ce_noted e to) (part g to p.sclk ph)
+  ce_tracks to g s ph core is sound phase =
+      record {
+        ce = refl;
+        sclk = t.sclk;
+        held = ap (λ (c : CoreState). c.held) core ∙ is;
+        few = omega arith;
+        sound = subst Sound (sym (ap (λ (c : CoreState). c.map) core)) sound;
+        phase = phase;
+      }
+
   ce_rises : e.ce ≡ false → StepBy mode e p (Ok CeRises)
   unfolding spelt
   ce_rises low =
       let core = held_core p.file (t.held ∙ low) in
-      record {
-        tracks = record {
-          ce = refl;
-          sclk = t.sclk;
-          held = ap (λ (c : CoreState). c.held) core;
-          few = omega arith;
-          sound = subst Sound (sym (ap (λ (c : CoreState). c.map) core)) t.sound;
-          phase = refl;
-        };
-        acts = (t.held ∙ low, core);
-      }
+      record { tracks = ce_tracks true (held p.file) _ (Header 0 0) core refl t.sound refl; acts = (t.held ∙ low, core) }
 
   ce_falls : e.ce ≡ true → StepBy mode e p (Ok CeFalls)
   ce_falls high =
       let core = released_core_held p.file (t.held ∙ high) in
       record {
-        tracks = record {
-          ce = refl;
-          sclk = t.sclk;
-          held = ap (λ (c : CoreState). c.held) core;
-          few = omega arith;
-          sound = subst Sound (sym (ap (λ (c : CoreState). c.map) core)) (sound_released p.file.core.map p.file.core.waits t.sound);
-          phase = refl;
-        };
+        tracks = ce_tracks false (released p.file) _ Idle core refl (sound_released p.file.core.map p.file.core.waits t.sound) refl;
         acts = (t.held ∙ high, core);
       }
 
@@ -298,43 +293,43 @@ module _ (mode : HourMode) (f : FileState) where
     not_last : eqb (length si) 7 ≡ false → suc (length si) < 8
     not_last e = let apart = eqb-false _ _ e in omega (arith, apart)
 
-    header_by : (last : Bool) → eqb (length si) 7 ≡ last → Tracks (bit_noted (notes_of true true AHeader si so) s last) (part f true false (cond last (headed (taken (spelt si) s)) (Header (length si + 1) (taken (spelt si) s))))
-    unfolding spelt
-    header_by true e =
-        record { ce = refl; sclk = refl; held = is_held_lem; few = omega arith; sound = sound; phase = asked_follows cells (taken (spelt si) s / 16) (format_coded (taken (spelt si) s % 16)) }
-    header_by false e =
-        record { ce = refl; sclk = refl; held = is_held_lem; few = not_last e; sound = sound; phase = ap (λ (n : ℕ). Header n (taken (spelt si) s)) (add-one (length si)) }
+    bit_tracks : (next : Next) (g : Bool → FileState) (ph : Bool → Phase) → ((last : Bool) → (g last).core.held ≡ true) → ((last : Bool) → Sound (g last).core.map) → Follows (g true).core.map.cells false (next_after next (spelt (s ∷ si))) [] [] (ph true) → Follows (g false).core.map.cells false next (s ∷ si) so (ph false) → (last : Bool) → eqb (length si) 7 ≡ last → Tracks (bit_noted (notes_of true true next si so) s last) (part (g last) true false (ph last))
+    bit_tracks next g ph held ok whole more true e =
+        record { ce = refl; sclk = refl; held = held true; few = omega arith; sound = ok true; phase = whole }
+    bit_tracks next g ph held ok whole more false e =
+        record { ce = refl; sclk = refl; held = held false; few = not_last e; sound = ok false; phase = more }
+
+    abbrev byte : ℕ
+    byte = taken (spelt si) s
 
     fall_header : FallAt AHeader si so s (Header (length si) (spelt si))
-    fall_header = record { tracks = header_by (eqb (length si) 7) refl; acts = nothing (eqb (length si) 7) }
+    unfolding spelt
+    fall_header =
+        record {
+          tracks =
+              bit_tracks AHeader (λ _. f) (λ last. cond last (headed byte) (Header (length si + 1) byte)) (λ _. is_held_lem) (λ _. sound)
+              (asked_follows cells (byte / 16) (format_coded (byte % 16))) (ap (λ (n : ℕ). Header n byte) (add-one (length si))) (eqb (length si) 7) refl;
+          acts = nothing (eqb (length si) 7);
+        }
 
     fall_deaf : FallAt Unheard si so s Deaf
-    fall_deaf = record { tracks = deaf_by (eqb (length si) 7) refl; acts = nothing (eqb (length si) 7) }
-      where
-        deaf_by : (last : Bool) → eqb (length si) 7 ≡ last → Tracks (bit_noted (notes_of true true Unheard si so) s last) (part f true false Deaf)
-        deaf_by true e = record { ce = refl; sclk = refl; held = is_held_lem; few = omega arith; sound = sound; phase = refl }
-        deaf_by false e = record { ce = refl; sclk = refl; held = is_held_lem; few = not_last e; sound = sound; phase = refl }
+    fall_deaf =
+        record {
+          tracks = bit_tracks Unheard (λ _. f) (λ _. Deaf) (λ _. is_held_lem) (λ _. sound) refl refl (eqb (length si) 7) refl;
+          acts = nothing (eqb (length si) 7);
+        }
 
     module _ (address : ℕ) (burst : Bool) where
-      abbrev byte : ℕ
-      byte = taken (spelt si) s
-
       abbrev landed : Bool → Option Landing × Phase
       landed last = cond last (Some (record { address = address; byte = byte }), after_write address burst) (None, Write address burst (length si + 1) byte)
 
-      write_by : (last : Bool) → eqb (length si) 7 ≡ last → Tracks (bit_noted (notes_of true true (WriteTo address burst) si so) s last) (part (with_landing f (landed last).0) true false (landed last).1)
-      unfolding spelt
-      write_by true e =
-          record {
-            ce = refl;
-            sclk = refl;
-            held = written_held f address byte ∙ is_held_lem;
-            few = omega arith;
-            sound = written_sound address byte sound;
-            phase = after_write_follows (written f address byte).core.map.cells address burst byte;
-          }
-      write_by false e =
-          record { ce = refl; sclk = refl; held = is_held_lem; few = not_last e; sound = sound; phase = ap (λ (n : ℕ). Write address burst n byte) (add-one (length si)) }
+      held_after : (last : Bool) → (with_landing f (landed last).0).core.held ≡ true
+      held_after true = written_held f address byte ∙ is_held_lem
+      held_after false = is_held_lem
+
+      sound_after : (last : Bool) → Sound (with_landing f (landed last).0).core.map
+      sound_after true = written_sound address byte sound
+      sound_after false = sound
 
       write_acts : (last : Bool) → Acts byte_chart mode (cond last (landed_by mode (WriteTo address burst) (spelt (s ∷ si))) Nothing) f.core (with_landing f (landed last).0).core
       unfolding spelt
@@ -342,7 +337,14 @@ module _ (mode : HourMode) (f : FileState) where
       write_acts false = λ _. refl
 
       fall_write : FallAt (WriteTo address burst) si so s (Write address burst (length si) (spelt si))
-      fall_write = record { tracks = write_by (eqb (length si) 7) refl; acts = write_acts (eqb (length si) 7) }
+      unfolding spelt
+      fall_write =
+          record {
+            tracks =
+                bit_tracks (WriteTo address burst) (λ last. with_landing f (landed last).0) (λ last. (landed last).1) held_after sound_after
+                (after_write_follows (written f address byte).core.map.cells address burst byte) (ap (λ (n : ℕ). Write address burst n byte) (add-one (length si))) (eqb (length si) 7) refl;
+            acts = write_acts (eqb (length si) 7);
+          }
 
       module _ (old : ℕ) (out : SerialOut) (so_far : SoFar cells address (length si) old so true) where
         later : address < 7 → (old ≡ get_or cells address 0) × (spelt so ≡ old / 2 ^ (8 - suc (length si)))
@@ -351,26 +353,18 @@ module _ (mode : HourMode) (f : FileState) where
             let one : 7 - length si ≡ 8 - suc (length si) = omega arith in
             (whole.0, whole.1 ∙ ap (λ (k : ℕ). old / 2 ^ k) one)
 
-        read_by : (last : Bool) → eqb (length si) 7 ≡ last → Tracks (bit_noted (notes_of true true (ReadFrom address burst) si so) s last) (part f true false (cond last (after_read address burst out) (Read address burst (length si + 1) old out)))
-        read_by true e =
-            record { ce = refl; sclk = refl; held = is_held_lem; few = omega arith; sound = sound; phase = after_read_follows cells address burst (spelt (s ∷ si)) out }
-        read_by false e =
-            record {
-              ce = refl;
-              sclk = refl;
-              held = is_held_lem;
-              few = not_last e;
-              sound = sound;
-              phase = record {
-                byte = old;
-                out = out;
-                stands = ap (λ (n : ℕ). Read address burst n old out) (add-one (length si));
-                so_far = (λ z. absurd (omega arith), λ _ less. later less);
-              };
-            }
+        read_on : Reading cells false address burst (suc (length si)) so (Read address burst (length si + 1) old out)
+        read_on =
+            record { byte = old; out = out; stands = ap (λ (n : ℕ). Read address burst n old out) (add-one (length si)); so_far = (λ z. absurd (omega arith), λ _ less. later less) }
 
         fall_read : FallAt (ReadFrom address burst) si so s (Read address burst (length si) old out)
-        fall_read = record { tracks = read_by (eqb (length si) 7) refl; acts = nothing (eqb (length si) 7) }
+        fall_read =
+            record {
+              tracks =
+                  bit_tracks (ReadFrom address burst) (λ _. f) (λ last. cond last (after_read address burst out) (Read address burst (length si + 1) old out)) (λ _. is_held_lem) (λ _. sound)
+                  (after_read_follows cells address burst (spelt (s ∷ si)) out) read_on (eqb (length si) 7) refl;
+              acts = nothing (eqb (length si) 7);
+            }
 
   fall : (next : Next) (si so : List ℕ) (ph : Phase) → Tracks (notes_of true true next si so) (part f true true ph) → (s : ℕ) → FallAt next si so s ph
   fall AHeader si so ph t s = subst (FallAt AHeader si so s) (sym t.phase) (fall_header si so t.few t.held t.sound s)
