@@ -22,7 +22,7 @@ use Rattle.rx5c348a_runs.specs.declared.call.WireAnswer.TheVariants.{Registers}
 use Rattle.rx5c348a_runs.specs.Onlooker.{Next, WriteTo, ReadFrom, Notes, spelt, given_by, landed_by}
 use Rattle.rx5c348a_runs.specs.Calls.{acceptance, levels_answered, load_sight, pulses_sight, pins_sight, look_sight, call_sight, do_call, notes, part_machine}
 use Rattle.rx5c348a_runs.specs.Complete.{EighthRise, Disturbs, CalendarOrTrim, OtherHourMode, Disturbance, GivesOut, ByRead, ByLook, CeGoes, WholeCalendar, EverythingIsSeen}
-use Rattle.rx5c348a_runs.proofs.Tracking.{Tracks, part, notes_of, never, is_noted, noted_tracks, same_move, fixed_by, level_by, comes}
+use Rattle.rx5c348a_runs.proofs.Tracking.{PhaseBy, Tracks, part, notes_of, never, is_noted, noted_tracks, same_move, fixed_by, level_by, comes}
 use Rattle.rx5c348a_runs.proofs.Runs.{tracked, begins}
 
 -- whether a sight is of bytes given; of a hold or release
@@ -86,7 +86,7 @@ module _ (mode : HourMode) (f : FileState) where
     rise_given true true a b next si so ph t is = never (sym b)
     rise_given false k a b next si so ph t is = never a
 
-  -- SCLK falls with CE high, seven bits of a written byte being in
+  -- what he makes of a byte that disturbs, and what disturbs by what he makes of it
   landed_disturbs : (address byte : ℕ) (again : Bool) → Disturbs mode address byte → landed_by mode (WriteTo address again) byte ≡ Wrote
   landed_disturbs address byte again (CalendarOrTrim less) =
       ap (λ (b : Bool). cond b Wrote (cond (eqb address 14) (cond (same_mode mode (hour_mode_in (masked 14 byte))) Nothing Wrote) Nothing)) (lt-ltb _ _ less)
@@ -94,27 +94,6 @@ module _ (mode : HourMode) (f : FileState) where
       ap (λ (b : Bool). cond b Wrote (cond (eqb address 14) (cond (same_mode mode (hour_mode_in (masked 14 byte))) Nothing Wrote) Nothing)) (le-ltb address 8 (omega arith))
       ∙ ap (λ (b : Bool). cond b (cond (same_mode mode (hour_mode_in (masked 14 byte))) Nothing Wrote) Nothing) (eq-eqb _ _ is)
       ∙ ap (λ (b : Bool). cond b Nothing Wrote) other
-
-  module _ (address : ℕ) (burst : Bool) (gathered s : ℕ) (disturbs : Disturbs mode address (taken gathered s)) where
-    landed : (next : Next) (si so : List ℕ) (ph : Phase) → Tracks (notes_of true true next si so) (part f true true ph) → ph ≡ Write address burst 7 gathered → sight_by mode (notes_of true true next si so) (part f true true ph) (Ok (SclkFalls s)) ≡ Wrote
-    unfolding spelt
-    landed (WriteTo to again) si so ph t is =
-        let both : Write to again (length si) (spelt si) ≡ Write address burst 7 gathered = sym t.phase ∙ is in
-        let here : to ≡ address = cc in
-        let seven : length si ≡ 7 = cc in
-        let front : spelt si ≡ gathered = cc in
-        ap (λ (b : Bool). cond b (landed_by mode (WriteTo to again) (taken (spelt si) s)) Nothing) (eq-eqb _ _ seven)
-        ∙ ap₂ (λ (a g : ℕ). landed_by mode (WriteTo a again) (taken g s)) here front
-        ∙ landed_disturbs address (taken gathered s) again disturbs
-    landed (ReadFrom from again) si so ph t is =
-        let r = t.phase in
-        let clash : Read from again (length si) r.byte r.out ≡ Write address burst 7 gathered = sym r.stands ∙ is in cc
-    landed _ si so ph t is = let clash = sym t.phase ∙ is in cc
-
-    fall_landed : (c k : Bool) → c ≡ true → k ≡ true → (next : Next) (si so : List ℕ) (ph : Phase) → Tracks (notes_of c k next si so) (part f c k ph) → ph ≡ Write address burst 7 gathered → sight_by mode (notes_of c k next si so) (part f c k ph) (Ok (SclkFalls s)) ≡ Wrote
-    fall_landed true true a b next si so ph t is = landed next si so ph t is
-    fall_landed true false a b next si so ph t is = never b
-    fall_landed false k a b next si so ph t is = never a
 
   -- of a rise of SCLK he makes a byte given or nothing, of its fall a write or nothing
   module _ (test : Sight → Bool) (none : test Nothing ≡ false) where
@@ -141,66 +120,11 @@ module _ (mode : HourMode) (f : FileState) where
     fall_fails fails true false next byte = none
     fall_fails fails false last next byte = none
 
-  -- a sight of a write comes of a byte that lands and disturbs
   disturbs_by : (address byte : ℕ) (low control same : Bool) → ltb address 8 ≡ low → eqb address 14 ≡ control → same_mode mode (hour_mode_in (masked 14 byte)) ≡ same → cond low Wrote (cond control (cond same Nothing Wrote) Nothing) ≡ Wrote → Disturbs mode address byte
   disturbs_by address byte true control same a b d h = CalendarOrTrim (ltb-true _ _ a)
   disturbs_by address byte false true true a b d h = apart is_write refl refl h
   disturbs_by address byte false true false a b d h = OtherHourMode (eqb-true _ _ b) d
   disturbs_by address byte false false same a b d h = apart is_write refl refl h
-
-  record Landed (c : Bool) (ph : Phase) (s : ℕ) : Type 0 where
-    selected : c ≡ true
-    address : ℕ
-    burst : Bool
-    gathered : ℕ
-    writes : ph ≡ Write address burst 7 gathered
-    disturbs : Disturbs mode address (taken gathered s)
-
-  wrote_by : (c k last : Bool) (next : Next) (si so : List ℕ) (ph : Phase) (s : ℕ) → eqb (length si) 7 ≡ last → Tracks (notes_of c k next si so) (part f c k ph) → cond c (cond last (landed_by mode next (spelt (s ∷ si))) Nothing) Nothing ≡ Wrote → Landed c ph s
-  unfolding spelt
-  wrote_by true k true (WriteTo address burst) si so ph s e t h =
-      record {
-        selected = refl;
-        address = address;
-        burst = burst;
-        gathered = spelt si;
-        writes = t.phase ∙ ap (λ (n : ℕ). Write address burst n (spelt si)) (eqb-true _ _ e);
-        disturbs = disturbs_by address (taken (spelt si) s) (ltb address 8) (eqb address 14) (same_mode mode (hour_mode_in (masked 14 (taken (spelt si) s)))) refl refl refl h;
-      }
-  wrote_by true k true _ si so ph s e t h = apart is_write refl refl h
-  wrote_by true k false next si so ph s e t h = apart is_write refl refl h
-  wrote_by false k last next si so ph s e t h = apart is_write refl refl h
-
-  -- a sight of bytes given comes of the eighth rise of a calendar cell
-  record GivenOut (c : Bool) (ph : Phase) : Type 0 where
-    selected : c ≡ true
-    cell : ℕ
-    byte : ℕ
-    burst : Bool
-    out : SerialOut
-    reads : ph ≡ Read cell burst 7 byte out
-    in_calendar : cell < 7
-
-  cell_by : (address : ℕ) (burst k inside : Bool) (si so : List ℕ) (ph : Phase) (b bytes : ℕ → Option ℕ) → ltb address 7 ≡ inside → eqb (length si) 7 ≡ true → Tracks (notes_of true k (ReadFrom address burst) si so) (part f true k ph) → cond inside (Gave b) Nothing ≡ Gave bytes → GivenOut true ph
-  cell_by address burst k false si so ph b bytes i e t h = apart gives refl refl h
-  cell_by address burst k true si so ph b bytes i e t h =
-      let r = t.phase in
-      record {
-        selected = refl;
-        cell = address;
-        byte = r.byte;
-        burst = burst;
-        out = r.out;
-        reads = r.stands ∙ ap (λ (n : ℕ). Read address burst n r.byte r.out) (eqb-true _ _ e);
-        in_calendar = ltb-true _ _ i;
-      }
-
-  gave_by : (c k last : Bool) (next : Next) (si so : List ℕ) (ph : Phase) (byte : ℕ) (bytes : ℕ → Option ℕ) → eqb (length si) 7 ≡ last → Tracks (notes_of c k next si so) (part f c k ph) → cond c (cond last (given_by next byte) Nothing) Nothing ≡ Gave bytes → GivenOut c ph
-  gave_by true k true (ReadFrom address burst) si so ph byte bytes e t h =
-      cell_by address burst k (ltb address 7) si so ph (one_cell address byte) bytes refl e t h
-  gave_by true k true _ si so ph byte bytes e t h = apart gives refl refl h
-  gave_by true k false next si so ph byte bytes e t h = apart gives refl refl h
-  gave_by false k last next si so ph byte bytes e t h = apart gives refl refl h
 
 -- of loads, pulses and looks he makes neither a hold nor a release, and of the first two no gift
 load_fails : (test : Sight → Bool) → test Nothing ≡ false → test Wrote ≡ false → (a : Acceptance) → test (load_sight (acceptance a)) ≡ false
@@ -243,22 +167,50 @@ module _ (mode : HourMode) (e : Notes) (p : PartState) (t : Tracks e p) where
             ∙ ap Some (lower_register p.file cell t.sound.seven less);
       }
 
+  -- the notes tell the phase
+  abbrev PhaseIn : Bool → Next → Type 0
+  PhaseIn c next = PhaseBy c p.file.core.map.cells e.sclk next e.si e.so p.phase
+
+  -- SCLK falls with CE high, seven bits of a written byte being in
+  module _ (address : ℕ) (burst : Bool) (gathered s : ℕ) (disturbs : Disturbs mode address (taken gathered s)) (writes : p.phase ≡ Write address burst 7 gathered) where
+    landed : (c : Bool) (next : Next) → c ≡ true → PhaseIn c next → cond c (cond (eqb (length e.si) 7) (landed_by mode next (spelt (s ∷ e.si))) Nothing) Nothing ≡ Wrote
+    unfolding spelt
+    landed true (WriteTo to again) a phase =
+        let both : Write to again (length e.si) (spelt e.si) ≡ Write address burst 7 gathered = sym phase ∙ writes in
+        let here : to ≡ address = cc in
+        let seven : length e.si ≡ 7 = cc in
+        let front : spelt e.si ≡ gathered = cc in
+        ap (λ (b : Bool). cond b (landed_by mode (WriteTo to again) (taken (spelt e.si) s)) Nothing) (eq-eqb _ _ seven)
+        ∙ ap₂ (λ (a g : ℕ). landed_by mode (WriteTo a again) (taken g s)) here front
+        ∙ landed_disturbs mode p.file address (taken gathered s) again disturbs
+    landed true (ReadFrom from again) a r = let clash = sym r.stands ∙ writes in cc
+    landed true _ a phase = let clash = sym phase ∙ writes in cc
+    landed false next a phase = never a
+
   writes_seen : (levels : ℕ) → Disturbance mode p levels → pins_seen levels ≡ Wrote
   writes_seen levels d =
       let l = d.lands in
-      let falls : Move = Ok (SclkFalls l.last) in
-      seen_by levels falls l.falls
-      ∙ fall_landed mode p.file d.address l.burst l.gathered l.last (subst (Disturbs mode d.address) l.whole d.disturbs) e.ce e.sclk (sym t.ce ∙ l.selected) (comes_of levels falls l.falls).0 e.next e.si e.so p.phase (noted_tracks e p t) l.writes
+      seen_by levels (Ok (SclkFalls l.last)) l.falls
+      ∙ landed d.address l.burst l.gathered l.last (subst (Disturbs mode d.address) l.whole d.disturbs) l.writes e.ce e.next (sym t.ce ∙ l.selected) t.phase
+
+  -- a sight of a write comes of a byte that lands and disturbs
+  wrote_by : (levels s : ℕ) → move_of p.ce p.sclk levels ≡ Ok (SclkFalls s) → (c last : Bool) (next : Next) → p.ce ≡ c → eqb (length e.si) 7 ≡ last → PhaseIn c next → cond c (cond last (landed_by mode next (spelt (s ∷ e.si))) Nothing) Nothing ≡ Wrote → Disturbance mode p levels
+  unfolding spelt
+  wrote_by levels s is true true (WriteTo address burst) selected seven phase h =
+      let byte : ℕ = taken (spelt e.si) s in
+      let writes : p.phase ≡ Write address burst 7 (spelt e.si) = phase ∙ ap (λ (n : ℕ). Write address burst n (spelt e.si)) (eqb-true _ _ seven) in
+      record {
+        address = address;
+        byte = byte;
+        lands = record { burst = burst; gathered = spelt e.si; last = s; writes = writes; selected = selected; falls = is; whole = refl };
+        disturbs = disturbs_by mode p.file address byte (ltb address 8) (eqb address 14) (same_mode mode (hour_mode_in (masked 14 byte))) refl refl refl h;
+      }
+  wrote_by levels s is true true _ selected seven phase h = apart is_write refl refl h
+  wrote_by levels s is true false next selected seven phase h = apart is_write refl refl h
+  wrote_by levels s is false last next selected seven phase h = apart is_write refl refl h
 
   wrote_alone : (levels : ℕ) (move : Move) → move_of p.ce p.sclk levels ≡ move → noted_sight move ≡ Wrote → Disturbance mode p levels
-  wrote_alone levels (Ok (SclkFalls s)) is h =
-      let l = wrote_by mode p.file e.ce e.sclk (eqb (length e.si) 7) e.next e.si e.so p.phase s refl (noted_tracks e p t) h in
-      record {
-        address = l.address;
-        byte = taken l.gathered s;
-        lands = record { burst = l.burst; gathered = l.gathered; last = s; writes = l.writes; selected = t.ce ∙ l.selected; falls = is; whole = refl };
-        disturbs = l.disturbs;
-      }
+  wrote_alone levels (Ok (SclkFalls s)) is h = wrote_by levels s is e.ce (eqb (length e.si) 7) e.next t.ce refl t.phase h
   wrote_alone levels (Ok SclkRises) is h =
       apart is_write refl (rise_fails mode p.file is_write refl (λ b. refl) e.ce (eqb (length e.si) 7) e.next _) h
   wrote_alone levels _ is h = apart is_write refl refl h
@@ -301,10 +253,21 @@ module _ (mode : HourMode) (e : Notes) (p : PartState) (t : Tracks e p) where
   look_given room true bytes s h = apart gives refl refl h
   look_given room false bytes s h = ByLook room refl (ltb-false _ _ s)
 
+  -- a sight of bytes given comes of the eighth rise of a calendar cell
+  gave_by : (levels byte : ℕ) (bytes : ℕ → Option ℕ) → move_of p.ce p.sclk levels ≡ Ok SclkRises → (c last : Bool) (next : Next) → p.ce ≡ c → eqb (length e.si) 7 ≡ last → PhaseIn c next → cond c (cond last (given_by next byte) Nothing) Nothing ≡ Gave bytes → GivesOut p (Pins levels)
+  gave_by levels byte bytes is true true (ReadFrom cell burst) selected seven r h = by (ltb cell 7) refl h
+    where
+      by : (inside : Bool) → ltb cell 7 ≡ inside → cond inside (Gave (one_cell cell byte)) Nothing ≡ Gave bytes → GivesOut p (Pins levels)
+      by true i h =
+          let reads : p.phase ≡ Read cell burst 7 r.byte r.out = r.stands ∙ ap (λ (n : ℕ). Read cell burst n r.byte r.out) (eqb-true _ _ seven) in
+          ByRead levels cell r.byte refl (record { burst = burst; out = r.out; reads = reads; selected = selected; rises = is; in_calendar = ltb-true _ _ i })
+      by false i h = apart gives refl refl h
+  gave_by levels byte bytes is true true _ selected seven phase h = apart gives refl refl h
+  gave_by levels byte bytes is true false next selected seven phase h = apart gives refl refl h
+  gave_by levels byte bytes is false last next selected seven phase h = apart gives refl refl h
+
   gave_alone : (levels : ℕ) (bytes : ℕ → Option ℕ) (move : Move) → move_of p.ce p.sclk levels ≡ move → noted_sight move ≡ Gave bytes → GivesOut p (Pins levels)
-  gave_alone levels bytes (Ok SclkRises) is h =
-      let g = gave_by mode p.file e.ce e.sclk (eqb (length e.si) 7) e.next e.si e.so p.phase _ bytes refl (noted_tracks e p t) h in
-      ByRead levels g.cell g.byte refl (record { burst = g.burst; out = g.out; reads = g.reads; selected = t.ce ∙ g.selected; rises = is; in_calendar = g.in_calendar })
+  gave_alone levels bytes (Ok SclkRises) is h = gave_by levels _ bytes is e.ce (eqb (length e.si) 7) e.next t.ce refl t.phase h
   gave_alone levels bytes (Ok (SclkFalls s)) is h =
       apart gives refl (fall_fails mode p.file gives refl refl e.ce (eqb (length e.si) 7) e.next _) h
   gave_alone levels bytes _ is h = apart gives refl refl h
