@@ -103,18 +103,18 @@ Tells ce sclk levels (Err NoSuchLevels) = 7 < levels
 Tells ce sclk levels (Err _) = ⊥
 
 -- What a move does to a part.
-abbrev pub moved : PartState → PinMove → PartState
-moved p Still = p
-moved p CeRises = ce_risen p
-moved p CeFalls = ce_fallen p
-moved p SclkRises = sclk_risen p
-moved p (SclkFalls si) = sclk_fallen p si
+abbrev pub after_move : PartState → PinMove → PartState
+after_move p Still = p
+after_move p CeRises = ce_risen p
+after_move p CeFalls = ce_fallen p
+after_move p SclkRises = sclk_risen p
+after_move p (SclkFalls si) = sclk_fallen p si
 
 -- What a part answers to a move, and the part after it. A refused one leaves it as it was.
-abbrev pub move_made : PartState → Move → Result PinAnswer Refusal × PartState
-move_made p (Err why) = (Err why, p)
-move_made p (Ok pin_move) = (Ok (answer_in (moved p pin_move)), moved p pin_move)
+abbrev pub move_outcome : PartState → Move → Result PinAnswer Refusal × PartState
+move_outcome p (Err why) = (Err why, p)
+move_outcome p (Ok pin_move) = (Ok (answer_in (after_move p pin_move)), after_move p pin_move)
 
 -- What levels answer and leave, shut, as the contract names it.
 unfoldable pub pins_part : PartState → ℕ → Result PinAnswer Refusal × PartState
-pins_part p levels = move_made p (move_of p.ce p.sclk levels)
+pins_part p levels = move_outcome p (move_of p.ce p.sclk levels)

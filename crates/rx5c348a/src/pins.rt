@@ -1,6 +1,6 @@
 // The four wires and /INTR.
 ghost use Rattle.std.specs.Prelude.{◌≡◌};
-ghost use Rattle.rx5c348a.specs.Pins.{answer_in, level_number, awaits_header, ce_risen, ce_fallen, sclk_risen, sclk_fallen, move_of, Tells, moved, pins_part};
+ghost use Rattle.rx5c348a.specs.Pins.{answer_in, level_number, awaits_header, ce_risen, ce_fallen, sclk_risen, sclk_fallen, move_of, Tells, after_move, pins_part};
 ghost use Rattle.rx5c348a.specs.Part.{seen};
 
 use crate::part::Rx5c348a;
@@ -135,7 +135,7 @@ impl Rx5c348a {
     }
 
     fn make(&mut self, pin_move: PinMove)
-        ensures { seen self.new ≡ moved (seen self.old) pin_move }
+        ensures { seen self.new ≡ after_move (seen self.old) pin_move }
     {
         match pin_move {
             PinMove::Still => {}

@@ -1,5 +1,5 @@
 -- Nothing escapes the onlooker: his notes follow the part, so what he makes of its calls is what the part does.
-use Rattle.std.proofs.Common.{Ok, Err, ◌≡◌, ℕ, ◌-◌, ◌/◌, ◌^◌, ◌<◌, ◌≤◌, Bool, true, false, cond, eqb, ltb, List, [], ◌∷◌, length, get_or, Some, None, Option, sym, refl, ap, ◌∙◌, subst, ap₂, div-one, arith, ltb-false, ltb-true, le-ltb, lt-ltb, eq-eqb, eqb-true}
+use Rattle.std.proofs.Common.{Ok, Err, ◌≡◌, ℕ, ◌<◌, ◌≤◌, Bool, true, false, cond, eqb, ltb, List, [], ◌∷◌, length, get_or, Some, None, Option, sym, refl, ap, ◌∙◌, subst, ap₂, arith, ltb-false, ltb-true, le-ltb, lt-ltb, eq-eqb, eqb-true}
 use Rattle.refusals.specs.declared.Refusal.TheVariants.{ShortBuffer}
 use Rattle.register_map.specs.declared.hour_mode.HourMode.{HourMode}
 use Rattle.clock_core.specs.Core.{Accepted as Acceptance}
@@ -10,7 +10,7 @@ use Rattle.serial_transfer.specs.Levels.{taken}
 use Rattle.rx5c_registers.specs.File.{FileState, registers, masked, hour_mode_in}
 use Rattle.rx5c_registers.proofs.Rows.{lower_register}
 use Rattle.rx5c348a.specs.declared.pins.PinMove.TheVariants.{CeRises, CeFalls, SclkRises, SclkFalls}
-use Rattle.rx5c348a.specs.Pins.{ce_to, Move, move_of, Tells, move_made, pins_part}
+use Rattle.rx5c348a.specs.Pins.{ce_to, Move, move_of, Tells, move_outcome, pins_part}
 use Rattle.rx5c348a.proofs.Moves.{tells}
 use Rattle.rx5c348a.specs.Part.{PartState}
 use Rattle.timekeeping.specs.CoreCalls.{same_mode, one_cell, cells_of}
@@ -22,7 +22,7 @@ use Rattle.rx5c348a_runs.specs.declared.call.WireAnswer.TheVariants.{Registers}
 use Rattle.rx5c348a_runs.specs.Onlooker.{Next, WriteTo, ReadFrom, Notes, spelt, given_by, landed_by}
 use Rattle.rx5c348a_runs.specs.Calls.{acceptance, levels_answered, load_sight, pulses_sight, pins_sight, look_sight, call_sight, do_call, notes, part_machine}
 use Rattle.rx5c348a_runs.specs.Complete.{EighthRise, Disturbs, CalendarOrTrim, OtherHourMode, Disturbance, GivesOut, ByRead, ByLook, CeGoes, WholeCalendar, EverythingIsSeen}
-use Rattle.rx5c348a_runs.proofs.Tracking.{PhaseBy, Tracks, part, notes_of, never, is_noted, noted_tracks, same_move, fixed_by, level_by, comes}
+use Rattle.rx5c348a_runs.proofs.Tracking.{PhaseBy, Tracks, part, notes_of, never, is_noted, noted_tracks, same_move, level_by, whole}
 use Rattle.rx5c348a_runs.proofs.Runs.{tracked, begins}
 
 -- whether a sight is of bytes given; of a hold or release
@@ -50,7 +50,7 @@ apart test holds fails is = never (sym fails ∙ ap test is ∙ holds)
 
 -- the sight of a move, as the part answers it
 abbrev sight_by : HourMode → Notes → PartState → Move → Sight
-sight_by mode e p move = pins_sight mode e move (levels_answered (move_made p move).0)
+sight_by mode e p move = pins_sight mode e move (levels_answered (move_outcome p move).0)
 
 module _ (mode : HourMode) (f : FileState) where
   -- SCLK rises with CE high, seven bits of a calendar cell being over
@@ -61,17 +61,13 @@ module _ (mode : HourMode) (f : FileState) where
     read_given : (address : ℕ) (again : Bool) (si so : List ℕ) (ph : Phase) → Tracks (notes_of true false (ReadFrom address again) si so) (part f true false ph) → ph ≡ Read cell burst 7 byte out → Given (ReadFrom address again) si so ph
     read_given address again si so ph t is =
         let r = t.phase in
-        let old : ℕ = r.byte in
-        let both : Read address again (length si) old r.out ≡ Read cell burst 7 byte out = sym r.stands ∙ is in
+        let both : Read address again (length si) r.byte r.out ≡ Read cell burst 7 byte out = sym r.stands ∙ is in
         let here : address ≡ cell = cc in
         let seven : length si ≡ 7 = cc in
-        let fixed : old ≡ byte = cc in
-        let whole = comes mode f si so t.few t.held t.sound address again old r.out r.so_far (eqb (length si) 0) refl (omega arith) in
-        let none : 7 - length si ≡ 0 = omega arith in
-        let level : ℕ = level_by mode f si so t.few t.held t.sound address again old r.out r.so_far (eqb (length si) 0) in
-        let goes : ℕ → ℕ = λ n. fixed_by mode f si so t.few t.held t.sound address again old r.out r.so_far (eqb n 0) in
+        let fixed : r.byte ≡ byte = cc in
+        let level : ℕ = level_by mode f si so t.few t.held t.sound address again r.byte r.out r.so_far (eqb (length si) 0) in
         let spelled : spelt (level ∷ so) ≡ byte =
-        whole.1 ∙ ap (λ (k : ℕ). goes (length si) / 2 ^ k) none ∙ div-one (goes (length si)) ∙ ap goes seven ∙ fixed in
+        whole mode f si so t.few t.held t.sound address again r.byte r.out r.so_far seven (omega arith) ∙ sym (r.so_far.1 (omega arith) (omega arith)).0 ∙ fixed in
         subst (Given (ReadFrom address again) si so) (sym r.stands)
         (ap (λ (b : Bool). cond b (cond (ltb address 7) (Gave (one_cell address (spelt (level ∷ so)))) Nothing) Nothing) (eq-eqb _ _ seven)
         ∙ ap (λ (b : Bool). cond b (Gave (one_cell address (spelt (level ∷ so)))) Nothing) (lt-ltb _ _ (omega arith))
@@ -146,7 +142,7 @@ module _ (mode : HourMode) (e : Notes) (p : PartState) (t : Tracks e p) where
   seen_by : (levels : ℕ) (move : Move) → move_of p.ce p.sclk levels ≡ move → pins_seen levels ≡ noted_sight move
   unfolding pins_part
   seen_by levels move is =
-      ap₂ (λ (heard made : Move). pins_sight mode e heard (levels_answered (move_made p made).0)) (sym (same_move e p t levels) ∙ is) is
+      ap₂ (λ (heard made : Move). pins_sight mode e heard (levels_answered (move_outcome p made).0)) (sym (same_move e p t levels) ∙ is) is
       ∙ ap (λ (q : PartState). sight_by mode e q move) (is_noted e p t)
 
   comes_of : (levels : ℕ) (move : Move) → move_of p.ce p.sclk levels ≡ move → Tells e.ce e.sclk levels move
@@ -293,4 +289,5 @@ everything_is_seen start loaded calls =
       no_other_holds = ce_alone mode (notes log) _ t true;
       releases = ce_is_seen mode (notes log) _ t false;
       no_other_releases = ce_alone mode (notes log) _ t false;
+      moves = tells _ _;
     }

@@ -8,7 +8,7 @@ use Rattle.rx5c_registers.specs.File.{FileState, registers}
 use Rattle.rx5c_registers.specs.Clock as clock
 use Rattle.rx5c348a.specs.declared.pins.PinMove.TheVariants.{CeRises, CeFalls, SclkRises, SclkFalls}
 use Rattle.rx5c348a.specs.Part.{PartState, pulse_part}
-use Rattle.rx5c348a.specs.Pins.{Move, move_made, pins_part}
+use Rattle.rx5c348a.specs.Pins.{Move, move_outcome, pins_part}
 use Rattle.timekeeping.specs.CoreCalls.{one_cell}
 use Rattle.timekeeping.specs.Logs.{Sight, Took, Wrote, Gave, Nothing, Log, hear, state_after, log_with, sights_of, pulses_by, pulses_taken, is_held, held_by, is_write}
 use Rattle.timekeeping.proofs.Heard.{Truly}
@@ -129,8 +129,8 @@ module _ (mode : HourMode) (e : Notes) (p : PartState) (t : Tracks e p) (q : Not
 
   -- an accepted move, as he heard it, as the part made it, and by the notes with SO unheard
   record AlikeMove (heard made deaf : Move) : Type 0 where
-    follows : Alike (pins_noted heard (levels_answered (move_made p made).0) e) (noted q deaf 0)
-    seen : shape (pins_sight mode e heard (levels_answered (move_made p made).0)) ≡ shape (move_sight mode q deaf 0)
+    follows : Alike (pins_noted heard (levels_answered (move_outcome p made).0) e) (noted q deaf 0)
+    seen : shape (pins_sight mode e heard (levels_answered (move_outcome p made).0)) ≡ shape (move_sight mode q deaf 0)
 
   alike_move : (move : Move) → is_ok move ≡ true → AlikeMove move move move
   alike_move (Ok pin_move) ok = record { follows = pins_alike (Ok pin_move) _; seen = pins_shape (Ok pin_move) _ }

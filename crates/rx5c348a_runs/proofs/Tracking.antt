@@ -21,7 +21,7 @@ use Rattle.rx5c_registers.proofs.Effects.{held_core, released_core_held, core_pu
 use Rattle.rx5c_registers.proofs.Rows.{lower_register}
 use Rattle.rx5c348a.specs.Part.{PartState}
 use Rattle.rx5c348a.specs.declared.pins.PinMove.TheVariants.{Still, CeRises, CeFalls, SclkRises, SclkFalls}
-use Rattle.rx5c348a.specs.Pins.{due_byte, with_landing, sclk_to, Move, move_of, Tells, move_made}
+use Rattle.rx5c348a.specs.Pins.{due_byte, with_landing, sclk_to, Move, move_of, Tells, move_outcome}
 use Rattle.rx5c348a.proofs.Moves.{tells}
 use Rattle.timekeeping.specs.CoreCalls.{one_cell, same_mode}
 use Rattle.timekeeping.specs.Logs.{Wrote, Gave, Nothing}
@@ -74,8 +74,8 @@ notes_of ce sclk next si so = record { ce = ce; sclk = sclk; next = next; si = s
 
 -- the notes follow, and the core does what he makes of the move that he heard
 pub record Step (mode : HourMode) (e : Notes) (p : PartState) (heard made : Move) : Type 0 where
-  pub tracks : Tracks (pins_noted heard (levels_answered (move_made p made).0) e) (move_made p made).1
-  pub acts : Acts byte_chart mode (pins_sight mode e heard (levels_answered (move_made p made).0)) p.file.core (move_made p made).1.file.core
+  pub tracks : Tracks (pins_noted heard (levels_answered (move_outcome p made).0) e) (move_outcome p made).1
+  pub acts : Acts byte_chart mode (pins_sight mode e heard (levels_answered (move_outcome p made).0)) p.file.core (move_outcome p made).1.file.core
 
 abbrev StepBy : HourMode → Notes → PartState → Move → Type 0
 StepBy mode e p move = Step mode e p move move
@@ -95,14 +95,8 @@ sound_released m false ok = ok
 module _ (mode : HourMode) (e : Notes) (p : PartState) (t : Tracks e p) where
   ce_tracks : (to : Bool) (g : FileState) (s : CoreState) (ph : Phase) → g.core ≡ s → s.held ≡ to → Sound s.map → PhaseBy to g.core.map.cells e.sclk AHeader [] [] ph → Tracks (ce_noted e to) (part g to p.sclk ph)
   ce_tracks to g s ph core is sound phase =
-      record {
-        ce = refl;
-        sclk = t.sclk;
-        held = ap (λ (c : CoreState). c.held) core ∙ is;
-        few = omega arith;
-        sound = subst Sound (sym (ap (λ (c : CoreState). c.map) core)) sound;
-        phase = phase;
-      }
+      let stays = subst Sound (sym (ap (λ (c : CoreState). c.map) core)) sound in
+      record { ce = refl; sclk = t.sclk; held = ap (λ (c : CoreState). c.held) core ∙ is; few = omega arith; sound = stays; phase = phase }
 
   ce_rises : e.ce ≡ false → StepBy mode e p (Ok CeRises)
   unfolding spelt
@@ -153,7 +147,7 @@ module _ (mode : HourMode) (f : FileState) where
       abbrev pub level_by : Bool → ℕ
       level_by first = out_number (level_out (bit_at (fixed_by first) (7 - length si)))
 
-      pub comes : (first : Bool) → eqb (length si) 0 ≡ first → address < 7 → (fixed_by first ≡ get_or cells address 0) × (spelt (level_by first ∷ so) ≡ fixed_by first / 2 ^ (7 - length si))
+      comes : (first : Bool) → eqb (length si) 0 ≡ first → address < 7 → (fixed_by first ≡ get_or cells address 0) × (spelt (level_by first ∷ so) ≡ fixed_by first / 2 ^ (7 - length si))
       unfolding spelt
       comes true e less =
           let none : length si ≡ 0 = eqb-true _ _ e in
@@ -176,17 +170,20 @@ module _ (mode : HourMode) (f : FileState) where
             ap₂ taken front (out_level (byte / 2 ^ (7 - length si))) ∙ taken_more byte (7 - length si) small,
           )
 
-      abbrev first : Bool
+      abbrev pub first : Bool
       first = eqb (length si) 0
 
       -- the eighth rise gives out the cell
+      pub whole : length si ≡ 7 → address < 7 → spelt (level_by first ∷ so) ≡ get_or cells address 0
+      whole last less =
+          let bits = comes first refl less in
+          let none : 7 - length si ≡ 0 = omega arith in
+          bits.1 ∙ ap (λ (k : ℕ). fixed_by first / 2 ^ k) none ∙ div-one (fixed_by first) ∙ bits.0
+
       cell_given : (cell given : ℕ) (here : Bool) → eqb address cell ≡ here → length si ≡ 7 → address < 7 → cond here (Some (spelt (level_by first ∷ so))) None ≡ Some given → given ≡ get_or cells cell 0
       cell_given cell given true e last less h =
-          let whole = comes first refl less in
-          let none : 7 - length si ≡ 0 = omega arith in
           let spelled : given ≡ spelt (level_by first ∷ so) = cc in
-          spelled ∙ whole.1 ∙ ap (λ (k : ℕ). fixed_by first / 2 ^ k) none ∙ div-one (fixed_by first) ∙ whole.0
-          ∙ ap (λ (k : ℕ). get_or cells k 0) (eqb-true _ _ e)
+          spelled ∙ whole last less ∙ ap (λ (k : ℕ). get_or cells k 0) (eqb-true _ _ e)
       cell_given cell given false e last less h = cc
 
       given_acts : (last calendar : Bool) → eqb (length si) 7 ≡ last → ltb address 7 ≡ calendar → Acts byte_chart mode (cond last (cond calendar (Gave (one_cell address (spelt (level_by first ∷ so)))) Nothing) Nothing) f.core f.core
@@ -194,17 +191,13 @@ module _ (mode : HourMode) (f : FileState) where
       given_acts true false e d = λ _. refl
       given_acts false calendar e d = λ _. refl
 
+      fixed : Reading cells true address burst (length si) (level_by first ∷ so) (Read address burst (length si) (fixed_by first) (level_out (bit_at (fixed_by first) (7 - length si))))
+      fixed = record { byte = fixed_by first; out = level_out (bit_at (fixed_by first) (7 - length si)); stands = refl; so_far = comes first refl }
+
       rise_read : RiseAt (ReadFrom address burst) si so (Read address burst (length si) byte out)
       rise_read =
           record {
-            tracks = record {
-              ce = refl;
-              sclk = refl;
-              held = is_held_lem;
-              few = few;
-              sound = sound;
-              phase = record { byte = fixed_by first; out = level_out (bit_at (fixed_by first) (7 - length si)); stands = refl; so_far = comes first refl };
-            };
+            tracks = record { ce = refl; sclk = refl; held = is_held_lem; few = few; sound = sound; phase = fixed };
             acts = given_acts (eqb (length si) 7) (ltb address 7) refl refl;
           }
 

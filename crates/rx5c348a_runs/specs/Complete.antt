@@ -9,7 +9,7 @@ use Rattle.serial_transfer.specs.Levels.{taken}
 use Rattle.rx5c_registers.specs.File.{masked, hour_mode_in}
 use Rattle.rx5c348a.specs.declared.pins.PinMove.TheVariants.{SclkRises, SclkFalls}
 use Rattle.rx5c348a.specs.Part.{PartState}
-use Rattle.rx5c348a.specs.Pins.{ce_to, move_of}
+use Rattle.rx5c348a.specs.Pins.{ce_to, move_of, Tells}
 use Rattle.timekeeping.specs.CoreCalls.{same_mode, one_cell}
 use Rattle.timekeeping.specs.Logs.{Sight, Held, Released, Wrote, Gave, state_after, log_of}
 use Rattle.rx5c348a_runs.specs.declared.call.WireCall.{WireCall}
@@ -74,6 +74,10 @@ abbrev pub sight_after : HourMode → PartState → List WireCall → WireCall �
 sight_after mode start calls call =
     call_sight mode (notes (log_of part_machine start calls)) call (do_call (part_after start calls) call).0
 
+-- what the move of levels says of them
+abbrev pub MoveIsTold : PartState → ℕ → Type 0
+MoveIsTold p levels = Tells p.ce p.sclk levels (move_of p.ce p.sclk levels)
+
 pub record AllIsSeen (mode : HourMode) (start : PartState) (calls : List WireCall) : Type 0 where
   -- eight rises give out a cell, and he has it with its byte
   pub reads : (levels cell byte : ℕ) → EighthRise (part_after start calls) levels cell byte → sight_after mode start calls (Pins levels) ≡ Gave (one_cell cell byte)
@@ -90,6 +94,8 @@ pub record AllIsSeen (mode : HourMode) (start : PartState) (calls : List WireCal
   -- he sees a release where CE falls, and at no other call
   pub releases : (call : WireCall) → CeGoes false (part_after start calls) call → sight_after mode start calls call ≡ Released
   pub no_other_releases : (call : WireCall) → sight_after mode start calls call ≡ Released → CeGoes false (part_after start calls) call
+  -- and the moves by which this is told are what the levels say
+  pub moves : (levels : ℕ) → MoveIsTold (part_after start calls) levels
 
 -- After every list of calls on a loaded part, with the hour mode that it was loaded with.
 abbrev pub EverythingIsSeen : Type 0
