@@ -1,4 +1,4 @@
--- The four wires: which move new levels are, what each move does, and what pin levels answer and leave.
+-- The four wires: which move new levels are, what each move does, and what levels answer and leave.
 use Rattle.std.specs.Prelude.{◌≡◌, ℕ, ◌<◌, ◌≤◌, Bool, true, false, cond, not, ◌&&◌, Some, None, Ok, Err, Option, Result, bit_and, nat_lt, slice_index}
 use Rattle.refusals.specs.declared.Refusal.{Refusal}
 use Rattle.refusals.specs.declared.Refusal.TheVariants.{NoSuchLevels, TwoPinsChange}
@@ -97,7 +97,8 @@ Tells ce sclk levels (Ok Still) = Gives levels ce sclk
 Tells ce sclk levels (Ok CeRises) = (ce ≡ false) × Gives levels true sclk
 Tells ce sclk levels (Ok CeFalls) = (ce ≡ true) × Gives levels false sclk
 Tells ce sclk levels (Ok SclkRises) = (sclk ≡ false) × Gives levels ce true
-Tells ce sclk levels (Ok (SclkFalls si)) = (sclk ≡ true) × Gives levels ce false × (si ≡ bit_and levels 1)
+Tells ce sclk levels (Ok (SclkFalls si)) =
+    (sclk ≡ true) × Gives levels ce false × (si ≡ bit_and levels 1)
 Tells ce sclk levels (Err TwoPinsChange) = Gives levels (not ce) (not sclk)
 Tells ce sclk levels (Err NoSuchLevels) = 7 < levels
 Tells ce sclk levels (Err _) = ⊥

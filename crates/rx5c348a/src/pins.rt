@@ -113,7 +113,7 @@ impl Rx5c348a {
         }
     }
 
-    // What levels do to the pins as they stand. Two changes at once would leave open which came first.
+    // What levels do to the pins as they stand. Two changes at once leave open which came first.
     #[tactic(auto, using(crate::proofs::Moves::tells))]
     fn move_to(&self, levels: u64) -> Result<PinMove, Refusal>
         ensures value { result ≡ move_of self.now.ce self.now.sclk levels }

@@ -44,8 +44,8 @@ do_call p (Look room) = (registers_seen p room, p)
 unfoldable pub work_one : PartState → WireCall → Answered × PartState
 work_one p call = do_call p call
 
--- What an onlooker notes of a call and its answer: accepted levels, by the move that they are from those he noted last;
--- an accepted load lowers the pins.
+-- What an onlooker notes of a call and its answer: of accepted levels the move that they are
+-- from those he noted last; an accepted load lowers the pins.
 abbrev pub load_noted : Answered → Notes → Notes
 load_noted (Ok Accepted) e = silent
 load_noted _ e = e

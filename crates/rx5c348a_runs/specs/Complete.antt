@@ -17,7 +17,8 @@ use Rattle.rx5c348a_runs.specs.declared.call.WireCall.TheVariants.{Pins, Look}
 use Rattle.rx5c348a_runs.specs.Calls.{do_call, notes, call_sight, part_machine}
 use Rattle.rx5c348a_runs.specs.Start.{Loaded}
 
--- The eighth rise of a calendar cell's byte: seven of its bits are over, and SCLK rises, CE being high.
+-- The eighth rise of a calendar cell's byte: seven of its bits are over, and SCLK rises, CE being
+-- high.
 pub record EighthRise (p : PartState) (levels cell byte : ℕ) : Type 0 where
   pub burst : Bool
   pub out : SerialOut
@@ -26,7 +27,8 @@ pub record EighthRise (p : PartState) (levels cell byte : ℕ) : Type 0 where
   pub rises : move_of p.ce p.sclk levels ≡ Ok SclkRises
   pub in_calendar : cell < 7
 
--- The eighth fall of a written byte: seven of its bits are in, and SCLK falls with the last, CE being high. The byte lands.
+-- The eighth fall of a written byte: seven of its bits are in, and SCLK falls with the last, CE
+-- being high. The byte lands.
 pub record EighthFall (p : PartState) (levels address byte : ℕ) : Type 0 where
   pub burst : Bool
   pub gathered : ℕ

@@ -1,4 +1,5 @@
--- What an onlooker at the wires makes of a move of the pins: he notes SI at the falls of SCLK and SO at its rises, and counts in eights.
+-- What an onlooker at the wires makes of a move of the pins: he notes SI at the falls of SCLK and
+-- SO at its rises, and counts in eights.
 use Rattle.std.specs.Prelude.{ℕ, ◌+◌, ◌/◌, ◌%◌, Bool, true, false, cond, List, [], ◌∷◌, length, Ok, Some, None, Option, ◌==◌, nat_lt}
 use Rattle.register_map.specs.declared.hour_mode.HourMode.{HourMode}
 use Rattle.serial_transfer.specs.declared.phase.Format.{Format}
