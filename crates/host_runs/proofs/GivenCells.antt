@@ -1,5 +1,5 @@
 -- What a session's call gives its host is the register that stands there, and is given out among the call's levels.
-use Rattle.std.proofs.Common.{◌≡◌, ℕ, zero, suc, ◌+◌, ◌%◌, ◌<◌, min, Bool, true, false, ◌&&◌, not, eqb, ltb, List, [], ◌∷◌, ◌++◌, map, length, get_or, take, drop, Ok, Err, Result, inl, inr, sym, refl, ap, ◌∙◌, subst, ap₂, arith, eqb-true, ltb-true, ltb-false}
+use Rattle.std.proofs.Common.{◌≡◌, ℕ, zero, suc, ◌+◌, ◌%◌, ◌<◌, min, Bool, true, false, ◌&&◌, not, eqb, ltb, List, [], ◌∷◌, ◌++◌, map, length, get_or, take, drop, Some, None, Option, slice_get, Ok, Err, Result, inl, inr, sym, refl, ap, ◌∙◌, subst, ap₂, arith, eqb-true, ltb-true, ltb-false}
 use Rattle.refusals.specs.declared.Refusal.{Refusal}
 use Rattle.refusals.specs.declared.Refusal.TheVariants.{NoHeaderAwaited}
 use Rattle.serial_transfer.specs.declared.phase.Phase.{Phase}
@@ -22,10 +22,10 @@ use Rattle.host_sessions.proofs.SessionLaws.{reads, burst_reads}
 use Rattle.host_runs.specs.declared.call.SessionCall.{SessionCall}
 use Rattle.host_runs.specs.declared.call.SessionCall.TheVariants.{Read, BurstRead}
 use Rattle.host_runs.specs.declared.call.HostCall.{HostCall}
-use Rattle.host_runs.specs.declared.call.HostCall.TheVariants.{Wire, First, Second}
+use Rattle.host_runs.specs.declared.call.HostCall.TheVariants.{Wire, Session}
 use Rattle.host_runs.specs.declared.call.HostAnswer.TheVariants.{Byte, Moved}
-use Rattle.host_runs.specs.Hosts.{byte_answered, Seat, IdleSeat, OpenSeat, SpentSeat, session_step, HostState, work_one}
-use Rattle.host_runs.specs.Levels.{session_levels, wire_calls_of}
+use Rattle.host_runs.specs.Hosts.{byte_answered, Seat, IdleSeat, OpenSeat, SpentSeat, session_step, HostState, seat_call, session_call, work_one}
+use Rattle.host_runs.specs.Levels.{session_levels, seat_levels, wire_calls_of}
 use Rattle.host_runs.specs.Reads.{GivesByte, HostIsGiven}
 use Rattle.host_runs.proofs.Wires.{front}
 use Rattle.host_runs.proofs.EighthRises.{Eighth, read_eighth, burst_eighth}
@@ -183,10 +183,21 @@ pub record HostStands (s : HostState) (call : HostCall) (cell byte : ℕ) : Type
   pub driven : wire_calls_of s call ≡ map Pins levels
   pub stands : Stands s.part levels cell byte
 
-pub host_gives : (e : Notes) (s : HostState) → Tracks e s.part → (cell : ℕ) → cell < 7 → (call : HostCall) (byte : ℕ) → HostIsGiven call (work_one s call) cell byte → HostStands s call cell byte
-unfolding work_one
+pub host_gives : (e : Notes) (s : HostState) → Tracks e s.part → (cell : ℕ) → cell < 7
+    → (call : HostCall) (byte : ℕ) → HostIsGiven call (work_one s call) cell byte
+    → HostStands s call cell byte
+unfolding work_one session_call
 host_gives e s t cell less (Wire call) byte g = absurd g
-host_gives e s t cell less (First call) byte g =
-    record { levels = session_levels s.first s.part (length s.buffer) call; driven = refl; stands = gives e s.part t cell less s.first s.buffer call byte g }
-host_gives e s t cell less (Second call) byte g =
-    record { levels = session_levels s.second s.part (length s.buffer) call; driven = refl; stands = gives e s.part t cell less s.second s.buffer call byte g }
+host_gives e s t cell less (Session number call) byte g =
+    record {
+      levels = seat_levels s call (slice_get s.sessions number);
+      driven = refl;
+      stands = by (slice_get s.sessions number) g;
+    }
+  where
+    by : (session : Option Seat)
+        → GivesByte call (seat_call s number call session).0 (seat_call s number call session).1.buffer cell byte
+        → Stands s.part (seat_levels s call session) cell byte
+    by None (inl r) = let said = r.answers in cc
+    by None (inr r) = let said = r.answers in cc
+    by (Some session) given = gives e s.part t cell less session s.buffer call byte given

@@ -3,3 +3,4 @@ pub mod GivenCells
 pub mod SessionReads
 pub mod EighthRises
 pub mod Rows
+pub mod Seats

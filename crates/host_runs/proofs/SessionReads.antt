@@ -29,9 +29,9 @@ use Rattle.rx5c348a_runs.proofs.Runs.{tracked, begins, part_true}
 use Rattle.host_sessions.specs.Driven.{all_driven}
 use Rattle.host_runs.specs.declared.call.SessionCall.{SessionCall}
 use Rattle.host_runs.specs.declared.call.HostCall.{HostCall}
-use Rattle.host_runs.specs.Hosts.{Seat, Stepped, session_step, HostState, work_one, host_run}
-use Rattle.host_runs.specs.Levels.{session_levels, wire_calls_of, on_wires, part_after, LevelsSoFar}
-use Rattle.host_runs.specs.Reads.{GivesByte, HostIsGiven, HeardGiven, CellsAreHeard, CellsAgree, SessionReadsAreHeard, OpenThen, OfItsStretch, SessionReadsAgree}
+use Rattle.host_runs.specs.Hosts.{Seat, Stepped, session_step, HostState, host_run}
+use Rattle.host_runs.specs.Levels.{session_levels, wire_calls_of, on_wires, part_after, wires_log, LevelsSoFar}
+use Rattle.host_runs.specs.Reads.{GivesByte, HeardGiven, Brought, CellsAreHeard, CellsAgree, GivenInList, OpenThen, OfItsStretch, PremisesHold}
 use Rattle.host_runs.proofs.Wires.{end_state, ends_at, in_parts, levels_end, levels_after_each_call}
 use Rattle.host_runs.proofs.GivenCells.{Stands, gives, HostStands, host_gives}
 
@@ -86,7 +86,9 @@ cell_of row o p cell mode_stands shows =
     ap (λ (cells : List ℕ). get_or cells cell 0) (sym coded.0) ∙ ap (λ (m : HourMode). get_or (byte_chart.code m p) cell 0) mode_stands
 
 -- after calls that brought the part here
-module _ (start : PartState) (rest : AtRest start) (new : NewlyMade byte_chart start.file.core) (before : List WireCall) (p : PartState) (here : p ≡ part_after start before) where
+module _ (start : PartState) (before : List WireCall) (p : PartState) (brought : Brought p start before) where
+  open brought use {at_rest, new, here}
+
   abbrev mode : HourMode
   mode = new.map.mode
 
@@ -97,7 +99,7 @@ module _ (start : PartState) (rest : AtRest start) (new : NewlyMade byte_chart s
   heard_truly = truly_with part_machine mode start before [] tt
 
   pub tracks : Tracks (notes log) p
-  tracks = subst (Tracks (notes log)) (sym here) (tracked mode start (begins start rest new) log heard_truly)
+  tracks = subst (Tracks (notes log)) (sym here) (tracked mode start (begins start at_rest new) log heard_truly)
 
   there : (front : List ℕ) → part_after start (before ++ map Pins front) ≡ all_driven front p
   there front =
@@ -112,7 +114,7 @@ module _ (start : PartState) (rest : AtRest start) (new : NewlyMade byte_chart s
       let r = stands.eighth in
       let row : get_or (registers p.file) cell 0 ≡ byte = lower_register p.file cell tracks.sound.seven less ∙ sym stands.is_cell in
       let at = there r.front ∙ r.there in
-      let seen = everything_is_seen start (record { at_rest = rest; new = new }) (before ++ map Pins r.front) in
+      let seen = everything_is_seen start (record { at_rest = at_rest; new = new }) (before ++ map Pins r.front) in
       let same : start.file.core.map.mode ≡ mode = ap (λ (c : CoreState). c.map.mode) new.made in
       let rise : EighthRise (part_after start (before ++ map Pins r.front)) 6 cell byte =
       record {
@@ -132,11 +134,13 @@ module _ (start : PartState) (rest : AtRest start) (new : NewlyMade byte_chart s
       }
 
   -- the code that a cell given is of
-  of_its_stretch : (whole later : Log part_machine) → whole ≡ later ++ log → Undisturbed part_machine mode whole → ShortStretches part_machine mode whole → (levels : List ℕ) (cell byte : ℕ) → Stands p levels cell byte → OfItsStretch mode start whole log cell byte
-  of_its_stretch whole later e quiet short levels cell byte stands =
-      let quiet' = all_earlier part_machine mode start (λ x. is_write x ≡ false) later log (subst (Undisturbed part_machine mode) e quiet) in
-      let short' = short_earlier part_machine mode start later log (subst (ShortStretches part_machine mode) e short) in
-      let true_to = part_true start (begins start rest new) mode in
+  of_its_stretch : (whole later : Log part_machine) → whole ≡ later ++ log → PremisesHold mode whole
+      → (levels : List ℕ) (cell byte : ℕ) → Stands p levels cell byte
+      → OfItsStretch mode start whole log cell byte
+  of_its_stretch whole later e premises levels cell byte stands =
+      let quiet' = all_earlier part_machine mode start (λ x. is_write x ≡ false) later log (subst (Undisturbed part_machine mode) e premises.undisturbed) in
+      let short' = short_earlier part_machine mode start later log (subst (ShortStretches part_machine mode) e premises.short) in
+      let true_to = part_true start (begins start at_rest new) mode in
       let k = kept part_machine byte_chart byte_chart_lawful start new true_to log heard_truly quiet' short' in
       let law = keeps_time part_machine byte_chart byte_chart_lawful start new true_to log heard_truly quiet' short' in
       let row : MapState = (state_after part_machine start log).file.core.map in
@@ -153,36 +157,50 @@ module _ (start : PartState) (rest : AtRest start) (new : NewlyMade byte_chart s
       }
 
 -- one call of any session
-pub cells_are_heard : (seat : Seat) (p : PartState) (buffer : List ℕ) (call : SessionCall) (r : Stepped) → r ≡ session_step seat p buffer call → CellsAreHeard p (session_levels seat p (length buffer) call) call r.answer r.buffer
-cells_are_heard seat p buffer call r is start rest new before here cell byte less given =
-    let levels : List ℕ = session_levels seat p (length buffer) call in
-    heard_given start rest new before p here (map Pins levels) levels cell byte less refl
-    (gives (notes (log_of part_machine start before)) p (tracks start rest new before p here) cell less seat buffer call byte
-    (subst (λ (q : Stepped). GivesByte call q.answer q.buffer cell byte) is given))
+module _ (seat : Seat) (p : PartState) (buffer : List ℕ) (call : SessionCall) (r : Stepped) (is : r ≡ session_step seat p buffer call) where
+  abbrev levels : List ℕ
+  levels = session_levels seat p (length buffer) call
 
-pub cells_agree : (seat : Seat) (p : PartState) (buffer : List ℕ) (call : SessionCall) (r : Stepped) → r ≡ session_step seat p buffer call → CellsAgree p call r.answer r.buffer
-cells_agree seat p buffer call r is start rest new before here whole later e quiet short cell byte less given =
-    of_its_stretch start rest new before p here whole later e quiet short (session_levels seat p (length buffer) call) cell byte
-    (gives (notes (log_of part_machine start before)) p (tracks start rest new before p here) cell less seat buffer call byte
-    (subst (λ (q : Stepped). GivesByte call q.answer q.buffer cell byte) is given))
+  session_stands : (start : PartState) (before : List WireCall) → Brought p start before
+      → (cell byte : ℕ) → cell < 7 → GivesByte call r.answer r.buffer cell byte
+      → Stands p levels cell byte
+  session_stands start before brought cell byte less given =
+      gives (notes (log_of part_machine start before)) p (tracks start before p brought) cell less seat buffer call byte
+      (subst (λ (q : Stepped). GivesByte call q.answer q.buffer cell byte) is given)
 
--- what each call of a list gives
-host_stands : (s : HostState) (rest : AtRest s.part) (new : NewlyMade byte_chart s.part.file.core) (calls earlier : List HostCall) → LevelsSoFar s calls earlier → (call : HostCall) (cell byte : ℕ) → cell < 7 → HostIsGiven call (work_one (host_run s earlier).1 call) cell byte → HostStands (host_run s earlier).1 call cell byte
-host_stands s rest new calls earlier here call cell byte less given =
-    let hosts : HostState = (host_run s earlier).1 in
-    let before : List WireCall = on_wires s earlier in
-    host_gives (notes (log_of part_machine s.part before)) hosts (tracks s.part rest new before hosts.part here.part) cell less call byte given
+  pub cells_are_heard : CellsAreHeard p levels call r.answer r.buffer
+  cells_are_heard start before brought cell byte less given =
+      heard_given start before p brought (map Pins levels) levels cell byte less refl
+      (session_stands start before brought cell byte less given)
 
--- it is heard given
-pub session_reads_are_heard : (s : HostState) → AtRest s.part → (calls : List HostCall) → SessionReadsAreHeard s calls
-session_reads_are_heard s rest calls new earlier later call cut cell byte less given =
-    let here = levels_after_each_call s calls earlier (call ∷ later) cut in
-    let now = host_stands s rest new calls earlier here call cell byte less given in
-    heard_given s.part rest new (on_wires s earlier) (host_run s earlier).1.part here.part (wire_calls_of (host_run s earlier).1 call) now.levels cell byte less now.driven now.stands
+  pub cells_agree : CellsAgree p call r.answer r.buffer
+  cells_agree start before brought whole later e premises cell byte less given =
+      of_its_stretch start before p brought whole later e premises levels cell byte
+      (session_stands start before brought cell byte less given)
 
--- and is of the stretch that is open then
-pub session_reads_agree : (s : HostState) → AtRest s.part → (calls : List HostCall) → SessionReadsAgree s calls
-session_reads_agree s rest calls new quiet short earlier later call cut cell byte less given =
-    let here = levels_after_each_call s calls earlier (call ∷ later) cut in
-    let now = host_stands s rest new calls earlier here call cell byte less given in
-    of_its_stretch s.part rest new (on_wires s earlier) (host_run s earlier).1.part here.part (log_of part_machine s.part (on_wires s calls)) here.later here.heard quiet short now.levels cell byte now.stands
+-- each call of a list
+module _ (s : HostState) (rest : AtRest s.part) (calls : List HostCall) (new : NewlyMade byte_chart s.part.file.core) (cell byte : ℕ) (g : GivenInList s calls cell byte) where
+  abbrev hosts : HostState
+  hosts = (host_run s g.earlier).1
+
+  abbrev before : List WireCall
+  before = on_wires s g.earlier
+
+  abbrev so_far : LevelsSoFar s calls g.earlier
+  so_far = levels_after_each_call s calls g.earlier (g.call ∷ g.later) g.cut
+
+  abbrev brought : Brought hosts.part s.part before
+  brought = record { at_rest = rest; new = new; here = so_far.part }
+
+  host_stands : HostStands hosts g.call cell byte
+  host_stands = host_gives (notes (log_of part_machine s.part before)) hosts (tracks s.part before hosts.part brought) cell g.in_calendar g.call byte g.given
+
+  -- it is heard given
+  pub read_is_heard : HeardGiven new.map.mode s.part before (wire_calls_of hosts g.call) cell byte
+  read_is_heard =
+      heard_given s.part before hosts.part brought (wire_calls_of hosts g.call) host_stands.levels cell byte g.in_calendar host_stands.driven host_stands.stands
+
+  -- and is of the stretch that is open then
+  pub read_agrees : PremisesHold new.map.mode (wires_log s calls) → OfItsStretch new.map.mode s.part (wires_log s calls) (wires_log s g.earlier) cell byte
+  read_agrees premises =
+      of_its_stretch s.part before hosts.part brought (wires_log s calls) so_far.later so_far.heard premises host_stands.levels cell byte host_stands.stands

@@ -1,5 +1,5 @@
 -- A list of hosts' calls is the calls that it makes on the part, and so keeps time.
-use Rattle.std.proofs.Common.{◌≡◌, ℕ, min, List, [], ◌∷◌, ◌++◌, map, length, take, sym, refl, ap, ◌∙◌, append_assoc, arith}
+use Rattle.std.proofs.Common.{◌≡◌, ℕ, min, List, [], ◌∷◌, ◌++◌, map, length, take, sym, refl, ap, ◌∙◌, Some, None, Option, slice_get, append_assoc, arith}
 use Rattle.std.proofs.lemmas.List.{length-take}
 use Rattle.rx5c348a.specs.Part.{PartState}
 use Rattle.rx5c348a.specs.Pins.{pins_part}
@@ -15,9 +15,9 @@ use Rattle.host_sessions.proofs.DrivenLaws.{close_driven, open_driven, read_driv
 use Rattle.host_runs.specs.declared.call.SessionCall.{SessionCall}
 use Rattle.host_runs.specs.declared.call.SessionCall.TheVariants.{Open, Close, Read, Write, BurstRead, BurstWrite}
 use Rattle.host_runs.specs.declared.call.HostCall.{HostCall}
-use Rattle.host_runs.specs.declared.call.HostCall.TheVariants.{Wire, First, Second}
-use Rattle.host_runs.specs.Hosts.{Answered, Seat, IdleSeat, OpenSeat, SpentSeat, idle_step, open_step, spent_step, session_step, session_ended, HostState, host_step, work_one, host_run}
-use Rattle.host_runs.specs.Levels.{idle_levels, open_levels, spent_levels, session_levels, ending_levels, wire_calls_of, on_wires, part_after, part_after_levels, LevelsAfterEachCall}
+use Rattle.host_runs.specs.declared.call.HostCall.TheVariants.{Wire, Session}
+use Rattle.host_runs.specs.Hosts.{Answered, Seat, IdleSeat, OpenSeat, SpentSeat, idle_step, open_step, spent_step, session_step, session_ended, HostState, seat_call, session_call, host_step, work_one, host_run}
+use Rattle.host_runs.specs.Levels.{idle_levels, open_levels, spent_levels, session_levels, ending_levels, seat_levels, wire_calls_of, on_wires, part_after, part_after_levels, LevelsAfterEachCall}
 
 -- the part after calls on it, one by one
 unfoldable pub end_state : PartState → List WireCall → PartState
@@ -52,20 +52,12 @@ module _ (p : PartState) (buffer : List ℕ) where
   idle_driven : (pins : PinRecord) (call : SessionCall) → (idle_step pins p call).2 ≡ all_driven (idle_levels p call) p
   unfolding opened
   idle_driven pins Open = open_driven (wired pins p) _ refl
-  idle_driven pins Close = nothing_driven p
-  idle_driven pins (Read _) = nothing_driven p
-  idle_driven pins (Write _ _) = nothing_driven p
-  idle_driven pins (BurstRead _ _) = nothing_driven p
-  idle_driven pins (BurstWrite _ _) = nothing_driven p
+  idle_driven pins _ = nothing_driven p
 
   spent_driven : (pins : PinRecord) (call : SessionCall) → (spent_step pins p call).2 ≡ all_driven (spent_levels p call) p
   unfolding closed
-  spent_driven pins Open = nothing_driven p
   spent_driven pins Close = close_driven (wired pins p) _ refl
-  spent_driven pins (Read _) = nothing_driven p
-  spent_driven pins (Write _ _) = nothing_driven p
-  spent_driven pins (BurstRead _ _) = nothing_driven p
-  spent_driven pins (BurstWrite _ _) = nothing_driven p
+  spent_driven pins _ = nothing_driven p
 
   pub front : (count : ℕ) → length (take (min count (length buffer)) buffer) ≡ min count (length buffer)
   front count = length-take (min count (length buffer)) buffer ∙ least count (length buffer)
@@ -109,13 +101,18 @@ pub end_on_wires : (seat : Seat) (p q : PartState) → q ≡ (session_ended seat
 end_on_wires seat p q e = e ∙ end_driven p [] seat ∙ as_calls p (ending_levels seat p)
 
 -- one call of hosts is the calls that it makes on the part
+seat_on_wires : (s : HostState) (number : ℕ) (call : SessionCall) (session : Option Seat)
+    → (seat_call s number call session).1.part ≡ end_state s.part (map Pins (seat_levels s call session))
+unfolding end_state
+seat_on_wires s number call None = refl
+seat_on_wires s number call (Some session) =
+    session_driven s.part s.buffer session call
+    ∙ sym (levels_end s.part (session_levels session s.part (length s.buffer) call))
+
 one_on_wires : (s : HostState) (call : HostCall) → (host_step s call).1.part ≡ end_state s.part (wire_calls_of s call)
-unfolding end_state wire_one
+unfolding end_state wire_one session_call
 one_on_wires s (Wire call) = refl
-one_on_wires s (First call) =
-    session_driven s.part s.buffer s.first call ∙ sym (levels_end s.part (session_levels s.first s.part (length s.buffer) call))
-one_on_wires s (Second call) =
-    session_driven s.part s.buffer s.second call ∙ sym (levels_end s.part (session_levels s.second s.part (length s.buffer) call))
+one_on_wires s (Session number call) = seat_on_wires s number call (slice_get s.sessions number)
 
 pub run_on_wires : (s : HostState) (calls : List HostCall) → (host_run s calls).1.part ≡ end_state s.part (on_wires s calls)
 unfolding host_run on_wires work_one end_state

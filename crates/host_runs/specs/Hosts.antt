@@ -1,5 +1,5 @@
--- Hosts with sessions on one part: what each call answers and leaves, and the levels that it drives.
-use Rattle.std.specs.Prelude.{ℕ, min, List, [], ◌∷◌, ◌++◌, length, take, drop, Ok, Err, Result}
+-- Hosts with sessions on one part: what each call answers and leaves.
+use Rattle.std.specs.Prelude.{ℕ, min, List, [], ◌∷◌, ◌++◌, map, length, take, drop, Some, None, Option, Ok, Err, Result, slice_get, slice_set}
 use Rattle.refusals.specs.declared.Refusal.{Refusal}
 use Rattle.clock_core.specs.Core.{Accepted}
 use Rattle.timekeeping.specs.Worked.{number_worked, calls_worked, into_row}
@@ -11,9 +11,9 @@ use Rattle.host_sessions.specs.Sessions.{opened, closed, single_read, single_wri
 use Rattle.host_runs.specs.declared.call.SessionCall.{SessionCall}
 use Rattle.host_runs.specs.declared.call.SessionCall.TheVariants.{Open, Close, Read, Write, BurstRead, BurstWrite}
 use Rattle.host_runs.specs.declared.call.HostCall.{HostCall}
-use Rattle.host_runs.specs.declared.call.HostCall.TheVariants.{Wire, First, Second}
+use Rattle.host_runs.specs.declared.call.HostCall.TheVariants.{Wire, Session}
 use Rattle.host_runs.specs.declared.call.HostAnswer.{HostAnswer}
-use Rattle.host_runs.specs.declared.call.HostAnswer.TheVariants.{Wire as WireSaid, Done, Byte, Moved, DoesNotBuild}
+use Rattle.host_runs.specs.declared.call.HostAnswer.TheVariants.{Wire as WireSaid, Done, Byte, Moved, DoesNotBuild, NoSuchSession}
 use Rattle.host_runs.specs.declared.session.HostSession.{HostSession}
 use Rattle.host_runs.specs.declared.session.HostSession.TheVariants.{Idle, Active, Spent}
 
@@ -40,7 +40,8 @@ pub record Stepped : Type 0 where
   pub buffer : List ℕ
 
 abbrev pub stepped : Answered → Seat → PartState → List ℕ → Stepped
-stepped answer session part buffer = record { answer = answer; session = session; part = part; buffer = buffer }
+stepped answer session part buffer =
+    record { answer = answer; session = session; part = part; buffer = buffer }
 
 abbrev pub byte_answered : Result ℕ Refusal → Answered
 byte_answered (Ok byte) = Ok (Byte byte)
@@ -54,44 +55,52 @@ abbrev pub wire_answered : WireAnswered → Answered
 wire_answered (Ok answer) = Ok (WireSaid answer)
 wire_answered (Err why) = Err why
 
--- A burst read into the front of a buffer, as far as it reaches: the bytes moved, the buffer, and both ends of the wires.
+-- A burst read into the front of a buffer, as far as it reaches: the bytes moved, the buffer,
+-- and both ends of the wires.
 abbrev pub into_front : ℕ × List ℕ × Wired → List ℕ → ℕ × List ℕ × Wired
 into_front r rest = (r.0, r.1 ++ rest, r.2)
 
 abbrev pub burst_front : ℕ → ℕ → List ℕ → Wired → ℕ × List ℕ × Wired
 burst_front address count buffer w =
-    into_front (burst_read address (take (min count (length buffer)) buffer) w) (drop (min count (length buffer)) buffer)
+    into_front (burst_read address (take (min count (length buffer)) buffer) w)
+    (drop (min count (length buffer)) buffer)
 
 -- An idle session can only open.
 abbrev pub idle_step : PinRecord → PartState → SessionCall → Answered × Seat × PartState
-idle_step pins p Open = (Ok Done, OpenSeat (opened (wired pins p)).pins, (opened (wired pins p)).part)
-idle_step pins p Close = (Ok DoesNotBuild, IdleSeat pins, p)
-idle_step pins p (Read _) = (Ok DoesNotBuild, IdleSeat pins, p)
-idle_step pins p (Write _ _) = (Ok DoesNotBuild, IdleSeat pins, p)
-idle_step pins p (BurstRead _ _) = (Ok DoesNotBuild, IdleSeat pins, p)
-idle_step pins p (BurstWrite _ _) = (Ok DoesNotBuild, IdleSeat pins, p)
+idle_step pins p Open =
+    (Ok Done, OpenSeat (opened (wired pins p)).pins, (opened (wired pins p)).part)
+idle_step pins p _ = (Ok DoesNotBuild, IdleSeat pins, p)
 
--- An open one can do all else.
+-- An open one can do all else. It stays open after a single transfer, and a burst spends it.
+abbrev pub open_after : Answered → Wired → List ℕ → Stepped
+open_after answer w buffer = stepped answer (OpenSeat w.pins) w.part buffer
+
+abbrev pub spent_after : ℕ → Wired → List ℕ → Stepped
+spent_after moved w buffer = stepped (Ok (Moved moved)) (SpentSeat w.pins) w.part buffer
+
+abbrev pub burst_after : ℕ × List ℕ × Wired → Stepped
+burst_after r = spent_after r.0 r.2 r.1
+
 abbrev pub open_step : PinRecord → PartState → List ℕ → SessionCall → Stepped
 open_step pins p buffer Open = stepped (Ok DoesNotBuild) (OpenSeat pins) p buffer
-open_step pins p buffer Close = stepped (Ok Done) (IdleSeat (closed (wired pins p)).pins) (closed (wired pins p)).part buffer
+open_step pins p buffer Close =
+    stepped (Ok Done) (IdleSeat (closed (wired pins p)).pins) (closed (wired pins p)).part buffer
 open_step pins p buffer (Read address) =
-    stepped (byte_answered (single_read address (wired pins p)).0) (OpenSeat (single_read address (wired pins p)).1.pins) (single_read address (wired pins p)).1.part buffer
+    let read = single_read address (wired pins p) in open_after (byte_answered read.0) read.1 buffer
 open_step pins p buffer (Write address byte) =
-    stepped (done_answered (single_write address byte (wired pins p)).0) (OpenSeat (single_write address byte (wired pins p)).1.pins) (single_write address byte (wired pins p)).1.part buffer
+    let written = single_write address byte (wired pins p) in
+    open_after (done_answered written.0) written.1 buffer
 open_step pins p buffer (BurstRead address count) =
-    stepped (Ok (Moved (burst_front address count buffer (wired pins p)).0)) (SpentSeat (burst_front address count buffer (wired pins p)).2.pins) (burst_front address count buffer (wired pins p)).2.part (burst_front address count buffer (wired pins p)).1
+    burst_after (burst_front address count buffer (wired pins p))
 open_step pins p buffer (BurstWrite address bytes) =
-    stepped (Ok (Moved (burst_write address bytes.now (wired pins p)).0)) (SpentSeat (burst_write address bytes.now (wired pins p)).1.pins) (burst_write address bytes.now (wired pins p)).1.part buffer
+    let written = burst_write address bytes.now (wired pins p) in
+    spent_after written.0 written.1 buffer
 
 -- A spent one can only close.
 abbrev pub spent_step : PinRecord → PartState → SessionCall → Answered × Seat × PartState
-spent_step pins p Open = (Ok DoesNotBuild, SpentSeat pins, p)
-spent_step pins p Close = (Ok Done, IdleSeat (closed (wired pins p)).pins, (closed (wired pins p)).part)
-spent_step pins p (Read _) = (Ok DoesNotBuild, SpentSeat pins, p)
-spent_step pins p (Write _ _) = (Ok DoesNotBuild, SpentSeat pins, p)
-spent_step pins p (BurstRead _ _) = (Ok DoesNotBuild, SpentSeat pins, p)
-spent_step pins p (BurstWrite _ _) = (Ok DoesNotBuild, SpentSeat pins, p)
+spent_step pins p Close =
+    (Ok Done, IdleSeat (closed (wired pins p)).pins, (closed (wired pins p)).part)
+spent_step pins p _ = (Ok DoesNotBuild, SpentSeat pins, p)
 
 abbrev pub with_buffer : Answered × Seat × PartState → List ℕ → Stepped
 with_buffer r buffer = stepped r.0 r.1 r.2 buffer
@@ -107,30 +116,41 @@ session_ended (IdleSeat pins) p = wired pins p
 session_ended (OpenSeat pins) p = closed (wired pins p)
 session_ended (SpentSeat pins) p = closed (wired pins p)
 
--- Two sessions, the part that they share, and the hosts' buffer.
+-- The sessions by number, the part that they share, and the hosts' buffer.
 pub record HostState : Type 0 where
-  pub first : Seat
-  pub second : Seat
+  pub sessions : List Seat
   pub part : PartState
   pub buffer : List ℕ
 
-abbrev pub host_state : Seat → Seat → PartState → List ℕ → HostState
-host_state first second part buffer = record { first = first; second = second; part = part; buffer = buffer }
+abbrev pub host_state : List Seat → PartState → List ℕ → HostState
+host_state sessions part buffer = record { sessions = sessions; part = part; buffer = buffer }
 
-abbrev pub first_after : HostState → Stepped → Answered × HostState
-first_after s r = (r.answer, host_state r.session s.second r.part r.buffer)
+-- the sessions of the code, with the part and the buffer as they stand
+abbrev pub standing : List HostSession → PartState → List ℕ → HostState
+standing sessions part buffer = host_state (map seat sessions) part buffer
 
-abbrev pub second_after : HostState → Stepped → Answered × HostState
-second_after s r = (r.answer, host_state s.first r.session r.part r.buffer)
+-- one of the sessions has stepped, and the others are as they were
+abbrev pub session_after : HostState → ℕ → Stepped → Answered × HostState
+session_after s number r =
+    (r.answer, host_state (slice_set s.sessions number r.session) r.part r.buffer)
+
+-- A call of the session that stands at a number; where none does, nothing is done.
+abbrev pub seat_call : HostState → ℕ → SessionCall → Option Seat → Answered × HostState
+seat_call s number call None = (Ok NoSuchSession, s)
+seat_call s number call (Some session) =
+    session_after s number (session_step session s.part s.buffer call)
+
+-- the same, by the number alone
+unfoldable pub session_call : HostState → ℕ → SessionCall → Answered × HostState
+session_call s number call = seat_call s number call (slice_get s.sessions number)
 
 abbrev pub wire_after : HostState → WireAnswered × PartState → Answered × HostState
-wire_after s r = (wire_answered r.0, host_state s.first s.second r.1 s.buffer)
+wire_after s r = (wire_answered r.0, host_state s.sessions r.1 s.buffer)
 
 -- One call of a list.
 abbrev pub host_step : HostState → HostCall → Answered × HostState
 host_step s (Wire call) = wire_after s (wire_one s.part call)
-host_step s (First call) = first_after s (session_step s.first s.part s.buffer call)
-host_step s (Second call) = second_after s (session_step s.second s.part s.buffer call)
+host_step s (Session number call) = session_call s number call
 
 -- the same, as a list is worked call by call
 unfoldable pub work_one : HostState → HostCall → Answered × HostState

@@ -1,5 +1,6 @@
--- Each call of hosts as the calls that it makes on the part: a call of a session is the levels that it drives.
-use Rattle.std.specs.Prelude.{◌≡◌, ℕ, min, List, [], ◌∷◌, ◌++◌, map, length}
+-- Each call of hosts as the calls that it makes on the part: a call of a session is the levels
+-- that it drives.
+use Rattle.std.specs.Prelude.{◌≡◌, ℕ, min, List, [], ◌∷◌, ◌++◌, map, length, Some, None, Option, slice_get}
 use Rattle.rx5c348a.specs.Part.{PartState}
 use Rattle.rx5c348a_runs.specs.declared.call.WireCall.{WireCall}
 use Rattle.rx5c348a_runs.specs.declared.call.WireCall.TheVariants.{Pins}
@@ -9,16 +10,12 @@ use Rattle.host_sessions.specs.Driven.{levels_of_open, levels_of_close, levels_o
 use Rattle.host_runs.specs.declared.call.SessionCall.{SessionCall}
 use Rattle.host_runs.specs.declared.call.SessionCall.TheVariants.{Open, Close, Read, Write, BurstRead, BurstWrite}
 use Rattle.host_runs.specs.declared.call.HostCall.{HostCall}
-use Rattle.host_runs.specs.declared.call.HostCall.TheVariants.{Wire, First, Second}
+use Rattle.host_runs.specs.declared.call.HostCall.TheVariants.{Wire, Session}
 use Rattle.host_runs.specs.Hosts.{Seat, IdleSeat, OpenSeat, SpentSeat, HostState, work_one, host_run}
 
 abbrev pub idle_levels : PartState → SessionCall → List ℕ
 idle_levels p Open = levels_of_open p
-idle_levels p Close = []
-idle_levels p (Read _) = []
-idle_levels p (Write _ _) = []
-idle_levels p (BurstRead _ _) = []
-idle_levels p (BurstWrite _ _) = []
+idle_levels p _ = []
 
 abbrev pub open_levels : PartState → ℕ → SessionCall → List ℕ
 open_levels p room Open = []
@@ -29,14 +26,11 @@ open_levels p room (BurstRead address count) = levels_of_burst_read address (min
 open_levels p room (BurstWrite address bytes) = levels_of_burst_write address bytes.now p
 
 abbrev pub spent_levels : PartState → SessionCall → List ℕ
-spent_levels p Open = []
 spent_levels p Close = levels_of_close p
-spent_levels p (Read _) = []
-spent_levels p (Write _ _) = []
-spent_levels p (BurstRead _ _) = []
-spent_levels p (BurstWrite _ _) = []
+spent_levels p _ = []
 
--- The levels that a call of a session drives, by the session's state; what does not build drives nothing.
+-- The levels that a call of a session drives, by the session's state; what does not build
+-- drives nothing.
 abbrev pub session_levels : Seat → PartState → ℕ → SessionCall → List ℕ
 session_levels (IdleSeat _) p room call = idle_levels p call
 session_levels (OpenSeat _) p room call = open_levels p room call
@@ -48,10 +42,15 @@ ending_levels (IdleSeat _) p = []
 ending_levels (OpenSeat _) p = levels_of_close p
 ending_levels (SpentSeat _) p = levels_of_close p
 
+-- the levels of a call of the session at a number: none where no session stands
+abbrev pub seat_levels : HostState → SessionCall → Option Seat → List ℕ
+seat_levels s call None = []
+seat_levels s call (Some session) = session_levels session s.part (length s.buffer) call
+
 abbrev pub wire_calls_of : HostState → HostCall → List WireCall
 wire_calls_of s (Wire call) = call ∷ []
-wire_calls_of s (First call) = map Pins (session_levels s.first s.part (length s.buffer) call)
-wire_calls_of s (Second call) = map Pins (session_levels s.second s.part (length s.buffer) call)
+wire_calls_of s (Session number call) =
+    map Pins (seat_levels s call (slice_get s.sessions number))
 
 -- A list of hosts' calls as the calls that it makes on the part.
 unfoldable pub on_wires : HostState → List HostCall → List WireCall

@@ -1,4 +1,3 @@
 pub mod Hosts
 pub mod Levels
-pub mod Standing
 pub mod Reads

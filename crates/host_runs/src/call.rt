@@ -16,9 +16,8 @@ pub enum SessionCall<'a> {
 pub enum HostCall<'a> {
     // a call on the part itself
     Wire(WireCall),
-    // two sessions on the one part
-    First(SessionCall<'a>),
-    Second(SessionCall<'a>),
+    // a call of the session of this number
+    Session(usize, SessionCall<'a>),
 }
 
 // What is answered to a call that no one refused.
@@ -31,4 +30,6 @@ pub enum HostAnswer {
     Moved(usize),
     // no program makes this call in this state of its session: nothing was done
     DoesNotBuild,
+    // no session has this number: nothing was done
+    NoSuchSession,
 }

@@ -13,6 +13,7 @@ use host_sessions::spent::SpentSession;
 use host_wires::record::PinRecord;
 use refusals::Refusal;
 use rx5c348a::part::Rx5c348a;
+use std::mem::replace;
 
 pub enum HostSession {
     Idle(IdleSession),
@@ -28,7 +29,8 @@ fn read_front(
     count: usize,
     buffer: &mut [u8],
 ) -> (SpentSession, usize)
-    ensures { (result.1, buffer.new, wired result.0.pins (seen part.new)) ≡ burst_front address count buffer.old (wired session.pins (seen part.old)) }
+    ensures { (result.1, buffer.new, wired result.0.pins (seen part.new))
+        ≡ burst_front address count buffer.old (wired session.pins (seen part.old)) }
 {
     let room = count.min(buffer.len());
     session.burst_read(part, address, &mut buffer[0..room])
@@ -39,7 +41,8 @@ fn step_idle(
     part: &mut Rx5c348a,
     call: SessionCall<'_>,
 ) -> (HostSession, Result<HostAnswer, Refusal>)
-    ensures { (result.1, seat result.0, seen part.new) ≡ idle_step session.pins (seen part.old) call.entry }
+    ensures { (result.1, seat result.0, seen part.new)
+        ≡ idle_step session.pins (seen part.old) call.entry }
 {
     match call {
         SessionCall::Open => (
@@ -56,7 +59,8 @@ fn step_open(
     call: SessionCall<'_>,
     buffer: &mut [u8],
 ) -> (HostSession, Result<HostAnswer, Refusal>)
-    ensures { stepped result.1 (seat result.0) (seen part.new) buffer.new ≡ open_step session.pins (seen part.old) buffer.old call.entry }
+    ensures { stepped result.1 (seat result.0) (seen part.new) buffer.new
+        ≡ open_step session.pins (seen part.old) buffer.old call.entry }
 {
     match call {
         SessionCall::Open => (HostSession::Active(session), Ok(HostAnswer::DoesNotBuild)),
@@ -89,7 +93,8 @@ fn step_spent(
     part: &mut Rx5c348a,
     call: SessionCall<'_>,
 ) -> (HostSession, Result<HostAnswer, Refusal>)
-    ensures { (result.1, seat result.0, seen part.new) ≡ spent_step session.pins (seen part.old) call.entry }
+    ensures { (result.1, seat result.0, seen part.new)
+        ≡ spent_step session.pins (seen part.old) call.entry }
 {
     match call {
         SessionCall::Close => (HostSession::Idle(session.close(part)), Ok(HostAnswer::Done)),
@@ -132,6 +137,23 @@ impl HostSession {
         ensures reads { CellsAgree (seen part.old) call.entry result.1 buffer.new }
     {
         self.step_by_state(part, call, buffer)
+    }
+
+    // One call of a session where it stands. The call moves it, so an idle one takes its place
+    // meanwhile, whose end drives nothing.
+    pub(crate) fn step_in_place(
+        &mut self,
+        part: &mut Rx5c348a,
+        call: SessionCall<'_>,
+        buffer: &mut [u8],
+    ) -> Result<HostAnswer, Refusal>
+        ensures { stepped result (seat self.new) (seen part.new) buffer.new
+            ≡ session_step (seat self.old) (seen part.old) buffer.old call.entry }
+    {
+        let session = replace(self, HostSession::Idle(IdleSession::new()));
+        let (stepped, answer) = session.step(part, call, buffer);
+        replace(self, stepped).end(part);
+        answer
     }
 
     // Closes what is open.

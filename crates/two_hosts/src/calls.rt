@@ -3,6 +3,11 @@ use clock_core::setting::Setting;
 use host_runs::call::{HostCall, SessionCall};
 use rx5c348a_runs::call::WireCall;
 
+// The hosts by the numbers of their sessions.
+pub(crate) const FIRST_HOST: usize = 0;
+
+pub(crate) const SECOND_HOST: usize = 1;
+
 // 00:00:58 on 1 January 2000, a Saturday.
 const MOMENT: u64 = 3_155_760_058;
 
@@ -27,16 +32,16 @@ const DAILY: u8 = 0x60;
 
 // The first host sets an alarm; while it then reads, the minute ends, and the second host finds the time as it was.
 pub(crate) const CALLS: [HostCall<'static>; 18] = [
-    HostCall::First(SessionCall::Open),
-    HostCall::First(SessionCall::Write(CONTROL, DAILY)),
-    HostCall::First(SessionCall::BurstWrite(11, &ALARM_D)),
-    HostCall::First(SessionCall::Close),
+    HostCall::Session(FIRST_HOST, SessionCall::Open),
+    HostCall::Session(FIRST_HOST, SessionCall::Write(CONTROL, DAILY)),
+    HostCall::Session(FIRST_HOST, SessionCall::BurstWrite(11, &ALARM_D)),
+    HostCall::Session(FIRST_HOST, SessionCall::Close),
     HostCall::Wire(WireCall::Pulses(65_500)),
-    HostCall::First(SessionCall::Open),
-    HostCall::First(SessionCall::Read(0)),
+    HostCall::Session(FIRST_HOST, SessionCall::Open),
+    HostCall::Session(FIRST_HOST, SessionCall::Read(0)),
     HostCall::Wire(WireCall::Pulses(100)),
-    HostCall::First(SessionCall::Read(0)),
-    HostCall::First(SessionCall::Read(16)),
+    HostCall::Session(FIRST_HOST, SessionCall::Read(0)),
+    HostCall::Session(FIRST_HOST, SessionCall::Read(16)),
     // a load that is refused
     HostCall::Wire(WireCall::Load(Setting {
         moment: MOMENT,
@@ -45,11 +50,11 @@ pub(crate) const CALLS: [HostCall<'static>; 18] = [
         mode: 1,
     })),
     // the part is let go, so that the waiting second counts and the alarm rings, and is held again
-    HostCall::Second(SessionCall::Open),
-    HostCall::Second(SessionCall::Read(FLAGS)),
-    HostCall::Second(SessionCall::BurstRead(0, 7)),
-    HostCall::Second(SessionCall::Read(0)),
-    HostCall::Second(SessionCall::Close),
-    HostCall::First(SessionCall::Close),
+    HostCall::Session(SECOND_HOST, SessionCall::Open),
+    HostCall::Session(SECOND_HOST, SessionCall::Read(FLAGS)),
+    HostCall::Session(SECOND_HOST, SessionCall::BurstRead(0, 7)),
+    HostCall::Session(SECOND_HOST, SessionCall::Read(0)),
+    HostCall::Session(SECOND_HOST, SessionCall::Close),
+    HostCall::Session(FIRST_HOST, SessionCall::Close),
     HostCall::Wire(WireCall::Look(16)),
 ];

@@ -1,7 +1,17 @@
 // What is printed. The words are this program's own, so they are no Display of the calls.
+use crate::calls::{FIRST_HOST, SECOND_HOST};
 use host_runs::call::{HostAnswer, HostCall, SessionCall};
 use refusals::Refusal;
 use rx5c348a_runs::call::{WireAnswer, WireCall};
+
+fn print_host(rt: &HostRuntime, number: usize) -> anyhow::Result<()> {
+    match number {
+        FIRST_HOST => print!(rt; "first host: ")?,
+        SECOND_HOST => print!(rt; "second host: ")?,
+        _ => print!(rt; "host {number}: ")?,
+    }
+    Ok(())
+}
 
 fn print_session_call(rt: &HostRuntime, call: SessionCall<'_>) -> anyhow::Result<()> {
     match call {
@@ -28,12 +38,8 @@ pub(crate) fn print_call(rt: &HostRuntime, call: HostCall<'_>) -> anyhow::Result
         HostCall::Wire(WireCall::Pulses(count)) => print!(rt; "pulses {count}")?,
         HostCall::Wire(WireCall::Pins(levels)) => print!(rt; "pins {levels}")?,
         HostCall::Wire(WireCall::Look(room)) => print!(rt; "look, {room} bytes")?,
-        HostCall::First(call) => {
-            print!(rt; "first host: ")?;
-            print_session_call(rt, call)?;
-        }
-        HostCall::Second(call) => {
-            print!(rt; "second host: ")?;
+        HostCall::Session(number, call) => {
+            print_host(rt, number)?;
             print_session_call(rt, call)?;
         }
     }
@@ -75,6 +81,7 @@ pub(crate) fn print_answer(
         Ok(HostAnswer::Byte(byte)) => println!(rt; ": {byte:02X}h")?,
         Ok(HostAnswer::Moved(count)) => println!(rt; ": {count} bytes moved")?,
         Ok(HostAnswer::DoesNotBuild) => println!(rt; ": does not build")?,
+        Ok(HostAnswer::NoSuchSession) => println!(rt; ": no such session")?,
         Err(why) => println!(rt; ": {why}")?,
     }
     Ok(())

@@ -7,16 +7,13 @@ mod lines;
 use calls::{CALLS, START};
 use host_runs::call::HostAnswer;
 use host_runs::session::HostSession;
-use host_runs::work::{Hosts, work_host_calls};
+use host_runs::work::work_host_calls;
 use host_sessions::idle::IdleSession;
 use lines::{print_answer, print_buffer, print_call};
 use rx5c348a::part::Rx5c348a;
 
-fn fresh_hosts() -> Hosts {
-    Hosts {
-        first: HostSession::Idle(IdleSession::new()),
-        second: HostSession::Idle(IdleSession::new()),
-    }
+fn new_session() -> HostSession {
+    HostSession::Idle(IdleSession::new())
 }
 
 fn run(rt: &HostRuntime) -> anyhow::Result<()> {
@@ -24,8 +21,9 @@ fn run(rt: &HostRuntime) -> anyhow::Result<()> {
     part.load(START)?;
     let mut buffer = [0u8; 7];
     let mut answers = [Ok(HostAnswer::Done); CALLS.len()];
-    let (hosts, _) = work_host_calls(fresh_hosts(), &mut part, &mut buffer, &CALLS, &mut answers);
-    let Hosts { first, second } = hosts;
+    let mut sessions = [new_session(), new_session()];
+    work_host_calls(&mut sessions, &mut part, &mut buffer, &CALLS, &mut answers);
+    let [first, second] = sessions;
     first.end(&mut part);
     second.end(&mut part);
     for (call, answer) in CALLS.iter().zip(answers.iter()) {
