@@ -15,10 +15,7 @@ fn record_by_record(rt: HostRuntime) -> Result<(), Fail> {
     assert_eq!(rt; line, [0xAA; 64]);
     let (printed, rest) = play_record(rest, &mut part, &mut line)?;
     assert_eq!(rt; printed, 35);
-    assert_eq!(rt;
-        &line[..36],
-        b"1 00000000000000000000000000000010\n\xAA".as_slice()
-    );
+    assert!(rt; line.starts_with(b"1 00000000000000000000000000000010\n\xAA"));
     let fault = play_record(rest, &mut part, &mut line)
         .err()
         .ok_or("taken")?;
