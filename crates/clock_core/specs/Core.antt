@@ -1,11 +1,11 @@
 -- The clock core: what each call answers and leaves, over any register map.
-use Rattle.std.specs.Prelude.{ℕ, zero, suc, ◌+◌, ◌-◌, ◌%◌, Bool, true, false, cond, ◌||◌, List, ◌++◌, length, drop, replicate, Some, None, Ok, Err, Option, Result, ◌==◌, nat_le, nat_lt, slice_index}
+use Rattle.std.specs.Prelude.{ℕ, zero, suc, ◌+◌, ◌-◌, ◌%◌, Bool, true, false, cond, ◌||◌, List, ◌++◌, length, drop, replicate, Some, None, Ok, Err, Option, Result, nat_le, nat_lt, slice_index}
 use Rattle.std.specs.Option.{option_map}
 use Rattle.std.specs.Result.{is_err, result_unwrap_or}
 use Rattle.refusals.specs.declared.Refusal.{Refusal}
 use Rattle.refusals.specs.declared.Refusal.TheVariants.{NoSuchMoment, NoSuchSetting, TooManyPulses, ShortBuffer, NoSuchCell, ShowsNone, AlreadyHeld, NotHeld}
 use Rattle.register_map.specs.declared.hour_mode.HourMode.{HourMode}
-use Rattle.register_map.specs.declared.hour_mode.HourMode.TheVariants.{Twelve}
+use Rattle.register_map.specs.declared.hour_mode.HourMode.TheVariants.{TwentyFour}
 use Rattle.register_map.specs.declared.shown.Shown.{Shown}
 use Rattle.register_map.specs.Chart.{Chart, MapState, map_state, shown_by, second_of, second_after, advanced, put_byte, set_mode}
 use Rattle.register_map.specs.Modes.{mode_numbered}
@@ -108,7 +108,7 @@ idle_core m = record { map = m; trim = 0; position = 0; second = 32768; held = f
 
 -- the hour mode of a number; load refuses one that has none, before this is asked
 abbrev pub mode_of : ℕ → HourMode
-mode_of number = result_unwrap_or (mode_numbered number) Twelve
+mode_of number = result_unwrap_or (mode_numbered number) TwentyFour
 
 -- what load refuses: first the moment and the weekday, then the trim and the mode
 abbrev pub load_refusal : Chart → ℕ → ℕ → ℕ → ℕ → Option Refusal

@@ -7,13 +7,14 @@ use Rattle.tape.specs.declared.record.Kind.TheVariants.{LoadMoment, GivePulses, 
 use Rattle.tape.specs.declared.record.Record.{Record}
 use Rattle.tape.specs.declared.record.Record.TheVariants.{Load, Pulses, Levels, Print}
 use Rattle.tape.specs.declared.record.TapeRefusal.{TapeRefusal}
-use Rattle.tape.specs.declared.record.TapeRefusal.TheVariants.{UnknownKind, TapeEnds, BadNumber}
+use Rattle.tape.specs.declared.record.TapeRefusal.TheVariants.{UnknownKind, TapeEnds, BadNumber, Other}
 
 -- the refusal of the table that the tape answers with
 abbrev pub refusal_of : TapeRefusal → Refusal
 refusal_of UnknownKind = Refusal.UnknownKind
 refusal_of TapeEnds = Refusal.TapeEnds
 refusal_of BadNumber = Refusal.BadNumber
+refusal_of (Other refusal) = refusal
 
 -- 4Dh loads a moment, 50h gives pulses, 57h gives pin levels, 4Ch prints; no other byte begins a record
 abbrev pub kind_of : ℕ → Result Kind TapeRefusal

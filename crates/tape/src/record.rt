@@ -35,6 +35,8 @@ pub enum TapeRefusal {
     TapeEnds,
     // a number of more than five groups, or with a padded last group
     BadNumber,
+    // what a reader of other kinds of records refuses; reading one here never does
+    Other(Refusal),
 }
 
 impl From<TapeRefusal> for Refusal {
@@ -45,6 +47,7 @@ impl From<TapeRefusal> for Refusal {
             TapeRefusal::UnknownKind => Refusal::UnknownKind,
             TapeRefusal::TapeEnds => Refusal::TapeEnds,
             TapeRefusal::BadNumber => Refusal::BadNumber,
+            TapeRefusal::Other(refusal) => refusal,
         }
     }
 }
